@@ -1,0 +1,15 @@
+pub mod Each
+pub mod Sums
+pub mod Alone
+pub mod Months
+pub mod Check
+pub mod Draws
+pub mod Trials
+pub mod Worked
+pub mod Rising
+pub mod Fill
+pub mod Exists
+pub mod Running
+pub mod Lines
+pub mod Legs
+pub mod Standing

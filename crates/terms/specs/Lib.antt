@@ -1,0 +1,15 @@
+pub mod Refusals
+pub mod Codes
+pub mod Answers
+pub mod Calendar
+pub mod Lots
+pub mod Month
+pub mod OddLots
+pub mod Selection
+pub mod Pairs
+pub mod Lines
+pub mod Struck
+pub mod Plain
+pub mod Law
+pub mod Facts
+pub mod Examples

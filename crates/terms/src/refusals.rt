@@ -1,0 +1,152 @@
+// The refusals: why a call was not carried out, each with its number.
+ghost use mathlib.Core.Path.{_≡_};
+ghost use Rattle.std.specs.Options.{Cases};
+ghost use Rattle.terms.specs.Refusals.{number};
+
+#[derive(Clone, Copy, PartialEq, Eq, Debug)]
+pub enum Refusal {
+    WrongLength = 1,
+    UnknownLetter = 2,
+    BadField = 3,
+    NotShareable = 8,
+    TooManyClosings = 9,
+    BadDays = 10,
+    BadAccounts = 11,
+    BadBonds = 12,
+    BadPositions = 13,
+    UnequalTotals = 14,
+    AreaTooSmall = 15,
+    ForeignArea = 16,
+    DayOver = 20,
+    UnknownAccount = 21,
+    SameAccount = 22,
+    LotsOutOfRange = 23,
+    TooManyLots = 24,
+    TooManyDates = 25,
+    JournalFull = 26,
+    OutsideWindow = 30,
+    BadBondEntries = 31,
+    AboveNetLots = 32,
+    NothingDeclared = 33,
+    TooManyTrials = 40,
+    NoTrial = 41,
+    TrialOpen = 42,
+    ResultMissing = 43,
+    RowAreaTooSmall = 44,
+    UnknownLeg = 45,
+    NotDeliveryDay = 46,
+    ResultGiven = 47,
+    BadResult = 48,
+    NotDrawn = 49,
+    ClosingDay = 50,
+    BadPreviewDay = 51,
+    OtherRows = 60,
+    BadPrices = 61,
+    LegUnsettled = 63,
+}
+
+impl Refusal {
+    // The number by which hosts know it.
+    pub fn number(self) -> u32
+        ensures { λ r. ⌜ r ≡ number self ⌝ }
+    {
+        self as u32
+    }
+
+    // The refusal with a number, if there is one.
+    pub fn of_number(n: u32) -> Option<Refusal>
+        ensures { λ r. ⌜ Cases r ((x : Refusal) → number x ≡ n → ⊥) (λ x. number x ≡ n) ⌝ }
+    {
+        let refusal = match n {
+            1 => Refusal::WrongLength,
+            2 => Refusal::UnknownLetter,
+            3 => Refusal::BadField,
+            8 => Refusal::NotShareable,
+            9 => Refusal::TooManyClosings,
+            10 => Refusal::BadDays,
+            11 => Refusal::BadAccounts,
+            12 => Refusal::BadBonds,
+            13 => Refusal::BadPositions,
+            14 => Refusal::UnequalTotals,
+            15 => Refusal::AreaTooSmall,
+            16 => Refusal::ForeignArea,
+            20 => Refusal::DayOver,
+            21 => Refusal::UnknownAccount,
+            22 => Refusal::SameAccount,
+            23 => Refusal::LotsOutOfRange,
+            24 => Refusal::TooManyLots,
+            25 => Refusal::TooManyDates,
+            26 => Refusal::JournalFull,
+            30 => Refusal::OutsideWindow,
+            31 => Refusal::BadBondEntries,
+            32 => Refusal::AboveNetLots,
+            33 => Refusal::NothingDeclared,
+            40 => Refusal::TooManyTrials,
+            41 => Refusal::NoTrial,
+            42 => Refusal::TrialOpen,
+            43 => Refusal::ResultMissing,
+            44 => Refusal::RowAreaTooSmall,
+            45 => Refusal::UnknownLeg,
+            46 => Refusal::NotDeliveryDay,
+            47 => Refusal::ResultGiven,
+            48 => Refusal::BadResult,
+            49 => Refusal::NotDrawn,
+            50 => Refusal::ClosingDay,
+            51 => Refusal::BadPreviewDay,
+            60 => Refusal::OtherRows,
+            61 => Refusal::BadPrices,
+            63 => Refusal::LegUnsettled,
+            _ => return None,
+        };
+        Some(refusal)
+    }
+
+    // What it means, in a few words.
+    pub fn meaning(self) -> &'static str {
+        match self {
+            Refusal::WrongLength => "a record has 64 bytes",
+            Refusal::UnknownLetter => "the letter is not one that is read here",
+            Refusal::BadField =>
+                "a field that the letter does not name is not zero, or a row has no lots, or a leg's bond has other lots",
+            Refusal::NotShareable =>
+                "an odd-lot rule cannot share these lots, or the answer area has another length",
+            Refusal::TooManyClosings => "64 closings are named already",
+            Refusal::BadDays => "the first, last or closing day is not as it has to be",
+            Refusal::BadAccounts => "the accounts are too few, too many or not rising",
+            Refusal::BadBonds =>
+                "the bonds are too few, too many or not rising, or a bond's terms are out of range",
+            Refusal::BadPositions =>
+                "a position row has no lots, is out of order, or gives no lawful position",
+            Refusal::UnequalTotals => "the long and the short lots are not equally many",
+            Refusal::AreaTooSmall => "the account area or the leg area is too small",
+            Refusal::ForeignArea => "an area is not the one that the month was opened with",
+            Refusal::DayOver => "the last trading day is past, or today's round is drawn",
+            Refusal::UnknownAccount => "the month does not have the account",
+            Refusal::SameAccount => "buyer and seller are one account",
+            Refusal::LotsOutOfRange => "the lots are not 1 to 100,000",
+            Refusal::TooManyLots => "a side would pass 100,000 lots",
+            Refusal::TooManyDates => "the buyer would have a 17th date of purchase",
+            Refusal::JournalFull => "the journal has too few free entries",
+            Refusal::OutsideWindow => "the minute is outside the window",
+            Refusal::BadBondEntries => "the bond entries are not as they have to be",
+            Refusal::AboveNetLots => "the quantity is above the net lots of that side",
+            Refusal::NothingDeclared => "the account has declared nothing",
+            Refusal::TooManyTrials => "eight trials are open",
+            Refusal::NoTrial => "no trial is open",
+            Refusal::TrialOpen => "a trial is open",
+            Refusal::ResultMissing => "a leg lacks its result",
+            Refusal::RowAreaTooSmall => "the row area is too small",
+            Refusal::UnknownLeg => "there is no such leg",
+            Refusal::NotDeliveryDay => "today is not the delivery day of the leg",
+            Refusal::ResultGiven => "the leg has its result",
+            Refusal::BadResult => "the mark or the unfinished lots are not as they have to be",
+            Refusal::NotDrawn => "today's round is not drawn",
+            Refusal::ClosingDay => "today is the closing day",
+            Refusal::BadPreviewDay => "the day cannot be previewed",
+            Refusal::OtherRows => "the rows are not those of the round",
+            Refusal::BadPrices =>
+                "a price, ratio or share is out of range, or the named bond is unknown",
+            Refusal::LegUnsettled => "a leg has no result yet",
+        }
+    }
+}
