@@ -6,7 +6,7 @@ ghost use Rattle.terms.specs.Codes.{each, between, visible, used};
 pub type Account = u32;
 
 // The code of a bond; any eight bytes are one.
-#[derive(Clone, Copy, PartialEq, Eq, Debug)]
+#[derive(Clone, Copy)]
 pub struct BondCode {
     pub bytes: [u8; 8],
 }
@@ -33,7 +33,7 @@ impl BondCode {
 }
 
 // Lots of one bond in a seller's declaration; an unused entry is all zero.
-#[derive(Clone, Copy, PartialEq, Eq, Debug)]
+#[derive(Clone, Copy)]
 pub struct BondLots {
     pub bond: BondCode,
     pub lots: u32,
@@ -49,7 +49,7 @@ impl BondLots {
 }
 
 // What can be asked of an opened month.
-#[derive(Clone, Copy, PartialEq, Eq, Debug)]
+#[derive(Clone, Copy)]
 pub enum Call {
     Trade {
         buyer: Account,

@@ -6,4 +6,3 @@ pub mod facts;
 pub mod holdings;
 pub mod refusals;
 pub mod rows;
-pub mod words;

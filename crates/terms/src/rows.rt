@@ -1,11 +1,9 @@
 // The rows that a round or a refused call writes.
 use crate::calls::Account;
 use crate::calls::BondCode;
-use crate::calls::BondCodeDebug;
-use crate::calls::BondCodePartialEq;
 
 // The class of a long lot in a round.
-#[derive(Clone, Copy, PartialEq, Eq, Debug)]
+#[derive(Clone, Copy)]
 pub enum Class {
     // one of the lots that a buyer's declaration covers
     Declared,
@@ -15,7 +13,7 @@ pub enum Class {
     Virtual,
 }
 
-#[derive(Clone, Copy, PartialEq, Eq, Debug)]
+#[derive(Clone, Copy)]
 pub enum Row {
     // lots of an account, class and day of purchase; in a draw, those selected
     ClassLots {

@@ -1,0 +1,92 @@
+// Calls in words.
+use crate::Words;
+use std::fmt;
+use terms::calls::BondCode;
+use terms::calls::BondLots;
+use terms::calls::Call;
+
+// Text where every byte is a visible ASCII character, else hex.
+pub impl fmt::Display for Words<BondCode> as BondCodeWords {
+    fn fmt<W: fmt::Write>(&self, f: &mut fmt::Formatter<W>) -> fmt::Result {
+        let code = self.0;
+        if code.is_visible() {
+            for b in code.bytes {
+                let c = char::from(b);
+                write!(f, "{c}")?;
+            }
+            return Ok(());
+        }
+        write!(f, "0x")?;
+        for b in code.bytes {
+            write!(f, "{b:02x}")?;
+        }
+        Ok(())
+    }
+}
+
+// A dash for an unused entry.
+pub impl fmt::Display for Words<BondLots> as BondLotsWords {
+    fn fmt<W: fmt::Write>(&self, f: &mut fmt::Formatter<W>) -> fmt::Result {
+        let entry = self.0;
+        if !entry.is_used() {
+            return write!(f, "-");
+        }
+        let bond = Words(entry.bond);
+        let lots = entry.lots;
+        write!(f, "{bond} {lots}")
+    }
+}
+
+pub impl fmt::Display for Words<Call> as CallWords {
+    fn fmt<W: fmt::Write>(&self, f: &mut fmt::Formatter<W>) -> fmt::Result {
+        match self.0 {
+            Call::Trade {
+                buyer,
+                seller,
+                lots,
+            } => write!(f, "trade, buyer {buyer}, seller {seller}, lots {lots}"),
+            Call::DeclarePurchase {
+                minute,
+                account,
+                lots,
+            } => {
+                write!(
+                    f,
+                    "purchase declaration, minute {minute}, account {account}, lots {lots}"
+                )
+            }
+            Call::DeclareSale {
+                minute,
+                account,
+                lots,
+                bonds,
+            } => {
+                write!(
+                    f,
+                    "sale declaration, minute {minute}, account {account}, lots {lots}, bonds "
+                )?;
+                let [a, b, c, d] = bonds;
+                let (a, b, c, d) = (Words(a), Words(b), Words(c), Words(d));
+                write!(f, "{a}, {b}, {c}, {d}")
+            }
+            Call::Withdraw { minute, account } => write!(
+                f,
+                "withdrawal, minute {minute}, account {account}"
+            ),
+            Call::OpenTrial => write!(f, "trial opened"),
+            Call::KeepTrial => write!(f, "trial kept"),
+            Call::DropTrial => write!(f, "trial dropped"),
+            Call::Preview { day } => write!(f, "preview, day {day}"),
+            Call::Draw => write!(f, "draw"),
+            Call::LegResult {
+                leg,
+                mark,
+                unfinished,
+            } => write!(
+                f,
+                "result, leg {leg}, mark {mark}, unfinished lots {unfinished}"
+            ),
+            Call::NextDay => write!(f, "next day"),
+        }
+    }
+}
