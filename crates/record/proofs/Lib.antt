@@ -1,2 +1,5 @@
 pub mod Parts
 pub mod Widths
+pub mod Reading
+pub mod Clear
+pub mod CallTrip

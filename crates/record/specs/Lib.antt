@@ -1,3 +1,5 @@
 pub mod Bytes
 pub mod Fields
 pub mod Widths
+pub mod Layouts
+pub mod Calls

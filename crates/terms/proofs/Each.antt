@@ -10,18 +10,18 @@ use Rattle.std.proofs.shelf.Lists.{at-drop-more, at-drop-all}
 use Rattle.std.proofs.shelf.Tests.{and-left, and-right, and-from, lt-leb, le-leb}
 use Rattle.terms.specs.Codes.{each, between}
 
--- an element that passes leaves the test to the rest
-pub each-more : {A : Type 0} (p : A → Bool) (xs : List A) (i : ℕ) (d : A) → i < length xs → p (getD xs i d) ≡ true →
-    each p (drop i xs) ≡ each p xs → each p (drop (i + 1) xs) ≡ each p xs
+-- an element that passes leaves the test to the rest; t is the test's outcome, as the loop began
+pub each-more : {A : Type 0} {t : Bool} (p : A → Bool) (xs : List A) (i : ℕ) (d : A) → i < length xs → p (getD xs i d) ≡ true →
+    each p (drop i xs) ≡ t → each p (drop (i + 1) xs) ≡ t
 each-more p xs i d l h inv = sym (at-drop-more (each p) xs i d l ∙ ap (λ b. b && each p (drop (i + 1) xs)) h) ∙ inv
 
 -- one that does not decides it
-pub each-fails : {A : Type 0} (p : A → Bool) (xs : List A) (i : ℕ) (d : A) → i < length xs → p (getD xs i d) ≡ false →
-    each p (drop i xs) ≡ each p xs → each p xs ≡ false
+pub each-fails : {A : Type 0} {t : Bool} (p : A → Bool) (xs : List A) (i : ℕ) (d : A) → i < length xs → p (getD xs i d) ≡ false →
+    each p (drop i xs) ≡ t → t ≡ false
 each-fails p xs i d l h inv = sym inv ∙ at-drop-more (each p) xs i d l ∙ ap (λ b. b && each p (drop (i + 1) xs)) h
 
 -- at the end all have passed
-pub each-all : {A : Type 0} (p : A → Bool) (xs : List A) (i : ℕ) → length xs ≤ i → each p (drop i xs) ≡ each p xs → each p xs ≡ true
+pub each-all : {A : Type 0} {t : Bool} (p : A → Bool) (xs : List A) (i : ℕ) → length xs ≤ i → each p (drop i xs) ≡ t → t ≡ true
 each-all p xs i l inv = sym inv ∙ at-drop-all (each p) xs i l
 
 pub outside : (low high n : ℕ) → (n < low) ⊎ ((low ≤ n) × (high < n)) → between low high n ≡ false

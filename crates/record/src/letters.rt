@@ -1,0 +1,23 @@
+// The letters of calls and of rows.
+#[derive(Clone, Copy)]
+pub enum CallLetter {
+    Trade,
+    DeclarePurchase,
+    DeclareSale,
+    Withdraw,
+    OpenTrial,
+    KeepTrial,
+    DropTrial,
+    Draw,
+    NextDay,
+    LegResult,
+}
+
+#[derive(Clone, Copy)]
+pub enum RowLetter {
+    Declared,
+    Undeclared,
+    Virtual,
+    Leg,
+    Refused,
+}
