@@ -3,3 +3,4 @@ pub mod Widths
 pub mod Reading
 pub mod Clear
 pub mod CallTrip
+pub mod RowTrip

@@ -3,3 +3,4 @@ pub mod Fields
 pub mod Widths
 pub mod Layouts
 pub mod Calls
+pub mod Rows

@@ -15,7 +15,7 @@ use crate::writes::record_of;
 use terms::calls::Call;
 use terms::refusals::Refusal;
 
-pub impl Letter for CallLetter as CallLetters {
+pub(crate) impl Letter for CallLetter as CallLetters {
     ghost named = { call-letter };
 
     ghost laid = { call-layout };
@@ -88,7 +88,7 @@ pub impl Letter for CallLetter as CallLetters {
 
 impl CallLetter {
     // The call of a record with this letter.
-    pub fn call(self, f: &Fields) -> Call
+    pub(crate) fn call(self, f: &Fields) -> Call
         ensures { λ r. ⌜ r ≡ call-from self (now (f .entry)) ⌝ }
     {
         match self {

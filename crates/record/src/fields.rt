@@ -3,7 +3,7 @@ use terms::calls::BondLots;
 
 // A record taken apart. Which of the fields mean something is the letter's to say.
 #[derive(Clone, Copy)]
-pub struct Fields {
+pub(crate) struct Fields {
     pub letter: u8,
     pub mark: u8,
     pub minute: u16,

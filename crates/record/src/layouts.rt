@@ -38,7 +38,7 @@ fn zero_unless(named: bool, n: u32) -> bool
 
 impl Layout {
     // Whether every field that is not named is zero.
-    pub fn is_kept(&self, f: &Fields) -> bool
+    pub(crate) fn is_kept(&self, f: &Fields) -> bool
         ensures { λ r. ⌜ r ≡ unnamed-zero (now (self .entry)) (now (f .entry)) ⌝ }
     {
         zero_unless(self.mark, u32::from(f.mark))
@@ -51,7 +51,7 @@ impl Layout {
 }
 
 // Four entries that are not used.
-pub fn no_entries() -> [BondLots; 4]
+pub(crate) fn no_entries() -> [BondLots; 4]
     ensures { λ r. ⌜ r ≡ no-entries ⌝ }
 {
     [BondLots {
@@ -61,7 +61,7 @@ pub fn no_entries() -> [BondLots; 4]
 }
 
 // The letters of a kind of record, each with its layout.
-pub trait Letter: Sized {
+pub(crate) trait Letter: Sized {
     ghost named: { ℕ → Option Self };
 
     ghost laid: { Self → Layout };
@@ -74,7 +74,7 @@ pub trait Letter: Sized {
 }
 
 // The letter and the fields of a record: 1, 2 or 3 where it is none of the kind.
-pub fn read_by<L: Letter + Drop>(bytes: &[u8]) -> Result<(L, Fields), Refusal>
+pub(crate) fn read_by<L: Letter + Drop>(bytes: &[u8]) -> Result<(L, Fields), Refusal>
     ensures answer { λ r. ⌜ answered r ≡ reading named laid (now (bytes .entry)) ⌝ }
     ensures back { λ r. ⌜ made r (λ p. laid-out (p .1) ≡ now (bytes .entry)) ⌝ }
 {

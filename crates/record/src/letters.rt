@@ -1,6 +1,6 @@
 // The letters of calls and of rows.
 #[derive(Clone, Copy)]
-pub enum CallLetter {
+pub(crate) enum CallLetter {
     Trade,
     DeclarePurchase,
     DeclareSale,
@@ -14,7 +14,7 @@ pub enum CallLetter {
 }
 
 #[derive(Clone, Copy)]
-pub enum RowLetter {
+pub(crate) enum RowLetter {
     Declared,
     Undeclared,
     Virtual,

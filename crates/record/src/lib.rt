@@ -1,9 +1,10 @@
-// Calls and rows as records of 64 bytes.
+// Calls and rows as records of 64 bytes: `read_call`, `write_call`, `read_row`, `write_row`.
 mod bytes;
 pub mod calls;
-pub mod fields;
-pub mod layouts;
-pub mod letters;
+mod fields;
+mod layouts;
+mod letters;
 mod reads;
-pub mod tables;
+pub mod rows;
+mod tables;
 mod writes;

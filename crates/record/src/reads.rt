@@ -67,7 +67,7 @@ fn fields_after(letter: u8, mark: u8, rest: &[u8]) -> Fields
 }
 
 // The fields of a record, or nothing if it does not have 64 bytes.
-pub fn fields_of(bytes: &[u8]) -> Option<Fields>
+pub(crate) fn fields_of(bytes: &[u8]) -> Option<Fields>
     ensures fields { λ r. ⌜ r ≡ cond (eqb (length (now (bytes .entry))) 64) (Some (fields (now (bytes .entry)))) None ⌝ }
     ensures back { λ r. ⌜ found r (λ f. laid-out f ≡ now (bytes .entry)) ⌝ }
 {

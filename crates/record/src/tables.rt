@@ -1,6 +1,6 @@
 // The fields that a letter names. All others are zero.
 #[derive(Clone, Copy)]
-pub struct Layout {
+pub(crate) struct Layout {
     pub mark: bool,
     pub minute: bool,
     pub account: bool,

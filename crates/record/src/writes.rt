@@ -70,7 +70,7 @@ fn put_entries(out: &mut [u8], start: usize, entries: &[BondLots; 4]) -> usize
 }
 
 // The record of fields.
-pub fn record_of(f: &Fields) -> [u8; 64]
+pub(crate) fn record_of(f: &Fields) -> [u8; 64]
     ensures bytes { λ r. ⌜ r ≡ laid-out (now (f .entry)) ⌝ }
     ensures back { λ r. ⌜ fields r ≡ now (f .entry) ⌝ }
 {
