@@ -7,6 +7,8 @@ ghost use Rattle.terms.specs.Answers.{answered, granted};
 ghost use Rattle.record.specs.Calls.{call-layout, call-letter, call-from, call-fields, call-bytes, read-call};
 use crate::fields::Fields;
 use crate::layouts::Letter;
+use crate::layouts::field_values;
+use crate::layouts::names_lots;
 use crate::layouts::no_entries;
 use crate::layouts::read_by;
 use crate::letters::CallLetter;
@@ -38,50 +40,34 @@ pub(crate) impl Letter for CallLetter as CallLetters {
     }
 
     fn layout(&self) -> Layout {
-        let none = Layout {
-            mark: false,
-            minute: false,
-            account: false,
-            lots: false,
-            second: false,
-            entries: 0,
+        let none = names_lots(false);
+        let declared = Layout {
+            minute: true,
+            account: true,
+            ..names_lots(true)
         };
         match self {
             CallLetter::Trade => Layout {
                 account: true,
-                lots: true,
                 second: true,
-                ..none
+                ..names_lots(true)
             },
-            CallLetter::DeclarePurchase => Layout {
-                minute: true,
-                account: true,
-                lots: true,
-                ..none
-            },
+            CallLetter::DeclarePurchase => declared,
             CallLetter::DeclareSale => Layout {
-                minute: true,
-                account: true,
-                lots: true,
                 entries: 4,
-                ..none
+                ..declared
             },
             CallLetter::Withdraw => Layout {
-                minute: true,
-                account: true,
-                ..none
+                lots: false,
+                ..declared
             },
             CallLetter::LegResult => Layout {
                 mark: true,
-                lots: true,
                 second: true,
-                ..none
+                ..names_lots(true)
             },
-            CallLetter::OpenTrial
-            | CallLetter::KeepTrial
-            | CallLetter::DropTrial
-            | CallLetter::Draw
-            | CallLetter::NextDay => none,
+            CallLetter::OpenTrial | CallLetter::KeepTrial | CallLetter::DropTrial => none,
+            CallLetter::Draw | CallLetter::NextDay => none,
         }
     }
 }
@@ -133,88 +119,35 @@ impl CallLetter {
 fn call_fields(call: &Call) -> Option<Fields>
     ensures { λ r. ⌜ r ≡ call-fields (now (call .entry)) ⌝ }
 {
-    let none = Fields {
-        letter: 0,
-        mark: 0,
-        minute: 0,
-        account: 0,
-        lots: 0,
-        second: 0,
-        entries: no_entries(),
-    };
+    let none = no_entries();
     let fields = match *call {
         Call::Trade {
             buyer,
             seller,
             lots,
-        } => Fields {
-            letter: b'T',
-            account: buyer,
-            lots,
-            second: seller,
-            ..none
-        },
+        } => field_values(b'T', 0, 0, buyer, lots, seller, none),
         Call::DeclarePurchase {
             minute,
             account,
             lots,
-        } => Fields {
-            letter: b'B',
-            minute,
-            account,
-            lots,
-            ..none
-        },
+        } => field_values(b'B', 0, minute, account, lots, 0, none),
         Call::DeclareSale {
             minute,
             account,
             lots,
             bonds,
-        } => Fields {
-            letter: b'S',
-            minute,
-            account,
-            lots,
-            entries: bonds,
-            ..none
-        },
-        Call::Withdraw { minute, account } => Fields {
-            letter: b'W',
-            minute,
-            account,
-            ..none
-        },
-        Call::OpenTrial => Fields {
-            letter: b'O',
-            ..none
-        },
-        Call::KeepTrial => Fields {
-            letter: b'K',
-            ..none
-        },
-        Call::DropTrial => Fields {
-            letter: b'X',
-            ..none
-        },
-        Call::Draw => Fields {
-            letter: b'R',
-            ..none
-        },
-        Call::NextDay => Fields {
-            letter: b'N',
-            ..none
-        },
+        } => field_values(b'S', 0, minute, account, lots, 0, bonds),
+        Call::Withdraw { minute, account } => field_values(b'W', 0, minute, account, 0, 0, none),
+        Call::OpenTrial => field_values(b'O', 0, 0, 0, 0, 0, none),
+        Call::KeepTrial => field_values(b'K', 0, 0, 0, 0, 0, none),
+        Call::DropTrial => field_values(b'X', 0, 0, 0, 0, 0, none),
+        Call::Draw => field_values(b'R', 0, 0, 0, 0, 0, none),
+        Call::NextDay => field_values(b'N', 0, 0, 0, 0, 0, none),
         Call::LegResult {
             leg,
             mark,
             unfinished,
-        } => Fields {
-            letter: b'E',
-            mark,
-            lots: unfinished,
-            second: leg,
-            ..none
-        },
+        } => field_values(b'E', mark, 0, 0, unfinished, leg, none),
         Call::Preview { day: _ } => return None,
     };
     Some(fields)

@@ -1,6 +1,6 @@
 // Which fields a letter names, and the checks that calls and rows share.
 ghost use mathlib.Core.Path.{_≡_};
-ghost use mathlib.Core.Bool.{not};
+ghost use mathlib.Core.Bool.{false, not};
 ghost use Prim.Native.Nat.{ℕ};
 ghost use lib.ListN.{drop};
 ghost use Rattle.std.specs.Vec.{made};
@@ -8,7 +8,7 @@ ghost use Rattle.std.specs.declared.option.Option.{Option};
 ghost use Rattle.terms.specs.Answers.{answered};
 ghost use Rattle.terms.specs.Codes.{each, used};
 ghost use Rattle.record.specs.Fields.{laid-out};
-ghost use Rattle.record.specs.Layouts.{no-entries, reading, unnamed-zero, zero-unless};
+ghost use Rattle.record.specs.Layouts.{field-values, layout, no-entries, reading, unnamed-zero, zero-unless};
 ghost use Rattle.record.specs.declared.tables.Layout.{Layout};
 use crate::fields::Fields;
 use crate::reads::fields_of;
@@ -58,6 +58,43 @@ pub(crate) fn no_entries() -> [BondLots; 4]
         bond: BondCode { bytes: [0; 8] },
         lots: 0,
     }; 4]
+}
+
+// The fields of a record.
+pub(crate) fn field_values(
+    letter: u8,
+    mark: u8,
+    minute: u16,
+    account: u32,
+    lots: u32,
+    second: u32,
+    entries: [BondLots; 4],
+) -> Fields
+    ensures { λ r. ⌜ r ≡ field-values letter mark minute account lots second entries ⌝ }
+{
+    Fields {
+        letter,
+        mark,
+        minute,
+        account,
+        lots,
+        second,
+        entries,
+    }
+}
+
+// A layout that names the lots, or nothing.
+pub(crate) fn names_lots(lots: bool) -> Layout
+    ensures { λ r. ⌜ r ≡ layout false false false lots false 0 ⌝ }
+{
+    Layout {
+        mark: false,
+        minute: false,
+        account: false,
+        lots,
+        second: false,
+        entries: 0,
+    }
 }
 
 // The letters of a kind of record, each with its layout.

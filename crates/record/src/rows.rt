@@ -8,6 +8,8 @@ ghost use Rattle.terms.specs.Selection.{letter};
 ghost use Rattle.record.specs.Rows.{row-layout, row-letter, class-row, leg-from, row-from, leg-entries, row-fields, row-bytes, row-lots, read-row};
 use crate::fields::Fields;
 use crate::layouts::Letter;
+use crate::layouts::field_values;
+use crate::layouts::names_lots;
 use crate::layouts::no_entries;
 use crate::layouts::read_by;
 use crate::letters::RowLetter;
@@ -37,26 +39,15 @@ pub(crate) impl Letter for RowLetter as RowLetters {
     }
 
     fn layout(&self) -> Layout {
-        let lots = Layout {
-            mark: false,
-            minute: false,
-            account: false,
-            lots: true,
-            second: false,
-            entries: 0,
+        let lots = names_lots(true);
+        let two = Layout {
+            account: true,
+            second: true,
+            ..lots
         };
         match self {
-            RowLetter::Declared | RowLetter::Undeclared | RowLetter::Virtual => Layout {
-                account: true,
-                second: true,
-                ..lots
-            },
-            RowLetter::Leg => Layout {
-                account: true,
-                second: true,
-                entries: 1,
-                ..lots
-            },
+            RowLetter::Declared | RowLetter::Undeclared | RowLetter::Virtual => two,
+            RowLetter::Leg => Layout { entries: 1, ..two },
             RowLetter::Refused => lots,
         }
     }
@@ -142,46 +133,14 @@ fn row_fields(row: &Row) -> Fields
             account,
             day,
             lots,
-        } => {
-            let letter = class_letter(class);
-            Fields {
-                letter,
-                mark: 0,
-                minute: 0,
-                account,
-                lots,
-                second: day,
-                entries: no_entries(),
-            }
-        }
+        } => field_values(class_letter(class), 0, 0, account, lots, day, no_entries()),
         Row::Leg {
             seller,
             buyer,
             lots,
             bond,
-        } => {
-            let entries = leg_entries(lots, bond);
-            Fields {
-                letter: b'L',
-                mark: 0,
-                minute: 0,
-                account: seller,
-                lots,
-                second: buyer,
-                entries,
-            }
-        }
-        Row::Refused { number } => {
-            Fields {
-                letter: b'Z',
-                mark: 0,
-                minute: 0,
-                account: 0,
-                lots: number,
-                second: 0,
-                entries: no_entries(),
-            }
-        }
+        } => field_values(b'L', 0, 0, seller, lots, buyer, leg_entries(lots, bond)),
+        Row::Refused { number } => field_values(b'Z', 0, 0, 0, number, 0, no_entries()),
     }
 }
 

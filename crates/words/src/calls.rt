@@ -1,6 +1,7 @@
 // Calls in words.
 use crate::Words;
 use std::fmt;
+use std::fmt::Write;
 use terms::calls::BondCode;
 use terms::calls::BondLots;
 use terms::calls::Call;
@@ -37,6 +38,15 @@ pub impl fmt::Display for Words<BondLots> as BondLotsWords {
     }
 }
 
+// The four entries of a sale declaration.
+pub impl fmt::Display for Words<[BondLots; 4]> as EntriesWords {
+    fn fmt<W: fmt::Write>(&self, f: &mut fmt::Formatter<W>) -> fmt::Result {
+        let [a, b, c, d] = self.0;
+        let (a, b, c, d) = (Words(a), Words(b), Words(c), Words(d));
+        write!(f, "{a}, {b}, {c}, {d}")
+    }
+}
+
 pub impl fmt::Display for Words<Call> as CallWords {
     fn fmt<W: fmt::Write>(&self, f: &mut fmt::Formatter<W>) -> fmt::Result {
         match self.0 {
@@ -61,23 +71,21 @@ pub impl fmt::Display for Words<Call> as CallWords {
                 lots,
                 bonds,
             } => {
+                let bonds = Words(bonds);
                 write!(
                     f,
-                    "sale declaration, minute {minute}, account {account}, lots {lots}, bonds "
-                )?;
-                let [a, b, c, d] = bonds;
-                let (a, b, c, d) = (Words(a), Words(b), Words(c), Words(d));
-                write!(f, "{a}, {b}, {c}, {d}")
+                    "sale declaration, minute {minute}, account {account}, lots {lots}, bonds {bonds}"
+                )
             }
             Call::Withdraw { minute, account } => write!(
                 f,
                 "withdrawal, minute {minute}, account {account}"
             ),
-            Call::OpenTrial => write!(f, "trial opened"),
-            Call::KeepTrial => write!(f, "trial kept"),
-            Call::DropTrial => write!(f, "trial dropped"),
+            Call::OpenTrial => f.write_str("trial opened"),
+            Call::KeepTrial => f.write_str("trial kept"),
+            Call::DropTrial => f.write_str("trial dropped"),
             Call::Preview { day } => write!(f, "preview, day {day}"),
-            Call::Draw => write!(f, "draw"),
+            Call::Draw => f.write_str("draw"),
             Call::LegResult {
                 leg,
                 mark,
@@ -86,7 +94,7 @@ pub impl fmt::Display for Words<Call> as CallWords {
                 f,
                 "result, leg {leg}, mark {mark}, unfinished lots {unfinished}"
             ),
-            Call::NextDay => write!(f, "next day"),
+            Call::NextDay => f.write_str("next day"),
         }
     }
 }

@@ -3,6 +3,7 @@ use crate::Words;
 use crate::calls::BondCodeWords;
 use crate::refusals::RefusalWords;
 use std::fmt;
+use std::fmt::Write;
 use terms::refusals::Refusal;
 use terms::rows::Class;
 use terms::rows::Row;
@@ -10,9 +11,9 @@ use terms::rows::Row;
 pub impl fmt::Display for Words<Class> as ClassWords {
     fn fmt<W: fmt::Write>(&self, f: &mut fmt::Formatter<W>) -> fmt::Result {
         match self.0 {
-            Class::Declared => write!(f, "declared"),
-            Class::Undeclared => write!(f, "undeclared"),
-            Class::Virtual => write!(f, "virtual"),
+            Class::Declared => f.write_str("declared"),
+            Class::Undeclared => f.write_str("undeclared"),
+            Class::Virtual => f.write_str("virtual"),
         }
     }
 }
