@@ -21,6 +21,7 @@ pub data Told : Type 0 where
   none : ℕ → Told
   cut : ℕ → Told
 
+-- What a value of the program tells.
 abbrev pub told : Seen → Told
 told (by.Call c) = a-call c
 told (by.Row r) = a-row r
@@ -32,10 +33,12 @@ abbrev pub as-row : Answer Row → Told
 as-row (granted r) = a-row r
 as-row (refused n) = none n
 
+-- A call, or, if the letter is no call's, what the bytes are as a row.
 abbrev pub as-call : Answer Call → Answer Row → Told
 as-call (granted c) row = a-call c
 as-call (refused n) row = cond (eqb n 2) (as-row row) (none n)
 
+-- Any bytes: 64 are read, fewer are a cut record.
 abbrev pub tells : List ℕ → Told
 tells bs = cond (eqb (length bs) 64) (as-call (read-call bs) (read-row bs)) (cut (length bs))
 

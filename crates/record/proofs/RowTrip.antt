@@ -26,7 +26,7 @@ use Rattle.terms.specs.declared.rows.Row.{Row}
 use Rattle.terms.specs.declared.rows.Row.the-variants.{ClassLots, Leg, Refused}
 use Rattle.record.specs.Fields.{fields, laid-out}
 use Rattle.record.specs.Layouts.{lettered, no-entry, no-entries, field-values}
-use Rattle.record.specs.Rows.{row-letters, row-letter, row-layout, class-row, entry-one, leg-from, row-from, row-answer, row-fields, row-bytes, row-lots, read-row}
+use Rattle.record.specs.Rows.{row-letters, row-letter, row-layout, class-row, entry-one, leg-from, row-from, row-with, row-answer, row-fields, row-bytes, row-lots, read-row}
 use Rattle.record.specs.declared.fields.Fields.{Fields}
 use Rattle.record.specs.declared.letters.RowLetter.{RowLetter}
 use Rattle.record.specs.declared.letters.RowLetter.the-variants as by
@@ -118,8 +118,15 @@ kept by.Refused f row k e =
 
 -- a row that is read is written as the bytes that were read
 pub row-only : (bs : List ℕ) (letter : RowLetter) (f : Fields) (r : Result Row Refusal) → Read row-letter row-layout bs letter f → laid-out f ≡ bs →
-    answered r ≡ row-from letter f → made r (λ row. row-bytes row ≡ bs)
-row-only bs letter f (Ok row) k b e = ap laid-out (kept letter f row (known-from bs letter f k) e) ∙ b
+    answered r ≡ row-with letter f → made r (λ row. row-bytes row ≡ bs)
+row-only bs letter f (Ok row) k b e =
+    elim (cases-bool (eqb (f .lots) 0)) [
+      | inl t ↦
+          let none : granted row ≡ refused 3 = e ∙ cond-true (eqb (f .lots) 0) (refused 3) (row-from letter f) t in
+          let z : _≡_ {A = ℕ} 0 1 = cc none in
+          absurd (omega arith)
+      | inr n ↦ ap laid-out (kept letter f row (known-from bs letter f k) (e ∙ cond-false (eqb (f .lots) 0) (refused 3) (row-from letter f) n)) ∙ b
+    ]
 row-only bs letter f (Err x) k b e = tt
 
 -- the fields of a row are read as that row, if it has lots

@@ -20,6 +20,7 @@ abbrev pub call-letters : List (ℕ × CallLetter)
 call-letters = (84, by.Trade) ∷ (66, by.DeclarePurchase) ∷ (83, by.DeclareSale) ∷ (87, by.Withdraw) ∷ (79, by.OpenTrial) ∷ (75, by.KeepTrial)
     ∷ (88, by.DropTrial) ∷ (82, by.Draw) ∷ (78, by.NextDay) ∷ (69, by.LegResult) ∷ []
 
+-- The letter with a byte.
 abbrev pub call-letter : ℕ → Option CallLetter
 call-letter b = lettered-by call-letters b
 
@@ -54,6 +55,7 @@ abbrev pub call-answer : Answer (CallLetter × Fields) → Answer Call
 call-answer (refused n) = refused n
 call-answer (granted p) = granted (call-from (p .0) (p .1))
 
+-- The call that any bytes are.
 abbrev pub read-call : List ℕ → Answer Call
 read-call bs = call-answer (reading call-letter call-layout bs)
 

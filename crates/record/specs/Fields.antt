@@ -11,6 +11,7 @@ use Rattle.record.specs.declared.fields.Fields.{Fields}
 abbrev pub entry-at : ℕ → List ℕ → BondLots
 entry-at at bs = record { bond = record { bytes = part at 8 bs }; lots = value (part (at + 8) 4 bs) }
 
+-- The twelve bytes of an entry.
 abbrev pub entry-bytes : BondLots → List ℕ
 entry-bytes e = e .bond .bytes ++ bytes-of 4 (e .lots)
 
@@ -30,5 +31,6 @@ fields bs = record {
 abbrev pub head-bytes : Fields → List ℕ
 head-bytes f = f .letter ∷ f .mark ∷ (bytes-of 2 (f .minute) ++ (bytes-of 4 (f .account) ++ (bytes-of 4 (f .lots) ++ bytes-of 4 (f .second))))
 
+-- The record: the head, then the four entries.
 abbrev pub laid-out : Fields → List ℕ
 laid-out f = head-bytes f ++ joined entry-bytes (f .entries)

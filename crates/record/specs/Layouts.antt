@@ -42,10 +42,11 @@ lettered layout (Some letter) f = cond (unnamed-zero (layout letter) f) (granted
 abbrev pub reading : {L : Type 0} → (ℕ → Option L) → (L → Layout) → List ℕ → Answer (L × Fields)
 reading named layout bs = cond (eqb (length bs) 64) (lettered layout (named (fields bs .letter)) (fields bs)) (refused 1)
 
--- An entry that is not used, and four of them.
+-- An entry that is not used.
 abbrev pub no-entry : BondLots
 no-entry = record { bond = record { bytes = replicate 8 0 }; lots = 0 }
 
+-- Four of them.
 abbrev pub no-entries : List BondLots
 no-entries = no-entry ∷ no-entry ∷ no-entry ∷ no-entry ∷ []
 

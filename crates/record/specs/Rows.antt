@@ -26,6 +26,7 @@ use Rattle.record.specs.declared.tables.Layout.{Layout}
 abbrev pub row-letters : List (ℕ × RowLetter)
 row-letters = (68, by.Declared) ∷ (85, by.Undeclared) ∷ (86, by.Virtual) ∷ (76, by.Leg) ∷ (90, by.Refused) ∷ []
 
+-- The letter with a byte.
 abbrev pub row-letter : ℕ → Option RowLetter
 row-letter b = lettered-by row-letters b
 
@@ -59,11 +60,16 @@ row-from by.Virtual f = granted (class-row Virtual f)
 row-from by.Leg f = leg-from f
 row-from by.Refused f = granted (Refused (f .lots))
 
--- The row that bytes are, or the number of the first check that fails; a row has lots.
+-- A row has lots.
+abbrev pub row-with : RowLetter → Fields → Answer Row
+row-with letter f = cond (eqb (f .lots) 0) (refused 3) (row-from letter f)
+
+-- The row that bytes are, or the number of the first check that fails.
 abbrev pub row-answer : Answer (RowLetter × Fields) → Answer Row
 row-answer (refused n) = refused n
-row-answer (granted p) = cond (eqb (p .1 .lots) 0) (refused 3) (row-from (p .0) (p .1))
+row-answer (granted p) = row-with (p .0) (p .1)
 
+-- The row that any bytes are.
 abbrev pub read-row : List ℕ → Answer Row
 read-row bs = row-answer (reading row-letter row-layout bs)
 

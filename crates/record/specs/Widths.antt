@@ -5,10 +5,12 @@ use Rattle.terms.specs.declared.calls.BondLots.{BondLots}
 use Rattle.record.specs.Bytes.{value, bytes-of}
 use Rattle.record.specs.declared.fields.Fields.{Fields}
 
+-- An entry.
 pub record EntryFits (e : BondLots) : Type 0 where
   pub code : length (e .bond .bytes) ≡ 8
   pub lots : value (bytes-of 4 (e .lots)) ≡ e .lots
 
+-- What stands before the entries.
 pub record HeadFits (f : Fields) : Type 0 where
   pub minute : value (bytes-of 2 (f .minute)) ≡ f .minute
   pub account : value (bytes-of 4 (f .account)) ≡ f .account

@@ -4,15 +4,13 @@ ghost use mathlib.Core.List.{[], _∷_};
 ghost use Rattle.record.specs.Bytes.{value, bytes-of};
 
 pub(crate) fn number16(b0: u8, b1: u8) -> u16
-    ensures value { λ r. ⌜ r ≡ value (b0 ∷ b1 ∷ []) ⌝ }
-    ensures back { λ r. ⌜ bytes-of 2 r ≡ b0 ∷ b1 ∷ [] ⌝ }
+    ensures { λ r. ⌜ r ≡ value (b0 ∷ b1 ∷ []) ⌝ }
 {
     u16::from(b0) + (u16::from(b1) << 8)
 }
 
 pub(crate) fn number32(b0: u8, b1: u8, b2: u8, b3: u8) -> u32
-    ensures value { λ r. ⌜ r ≡ value (b0 ∷ b1 ∷ b2 ∷ b3 ∷ []) ⌝ }
-    ensures back { λ r. ⌜ bytes-of 4 r ≡ b0 ∷ b1 ∷ b2 ∷ b3 ∷ [] ⌝ }
+    ensures { λ r. ⌜ r ≡ value (b0 ∷ b1 ∷ b2 ∷ b3 ∷ []) ⌝ }
 {
     u32::from(b0) + (u32::from(b1) << 8) + (u32::from(b2) << 16) + (u32::from(b3) << 24)
 }

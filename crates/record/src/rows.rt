@@ -5,7 +5,7 @@ ghost use lib.Dec.{eqb};
 ghost use Rattle.std.specs.Vec.{made};
 ghost use Rattle.terms.specs.Answers.{answered, granted, refused};
 ghost use Rattle.terms.specs.Selection.{letter};
-ghost use Rattle.record.specs.Rows.{row-layout, row-letter, class-row, leg-from, row-from, leg-entries, row-fields, row-bytes, row-lots, read-row};
+ghost use Rattle.record.specs.Rows.{row-layout, row-letter, class-row, leg-from, row-with, leg-entries, row-fields, row-bytes, row-lots, read-row};
 use crate::fields::Fields;
 use crate::layouts::Letter;
 use crate::layouts::field_values;
@@ -87,10 +87,13 @@ fn leg(f: &Fields) -> Result<Row, Refusal>
 }
 
 impl RowLetter {
-    // The row of a record with this letter.
+    // The row of a record with this letter, which has lots.
     pub(crate) fn row(self, f: &Fields) -> Result<Row, Refusal>
-        ensures { λ r. ⌜ answered r ≡ row-from self (now (f .entry)) ⌝ }
+        ensures { λ r. ⌜ answered r ≡ row-with self (now (f .entry)) ⌝ }
     {
+        if f.lots == 0 {
+            return Err(Refusal::BadField);
+        }
         match self {
             RowLetter::Declared => Ok(class_lots(Class::Declared, f)),
             RowLetter::Undeclared => Ok(class_lots(Class::Undeclared, f)),
@@ -151,9 +154,6 @@ pub fn read_row(bytes: &[u8]) -> Result<Row, Refusal>
     ensures only { λ r. ⌜ made r (λ row. row-bytes row ≡ now (bytes .entry)) ⌝ }
 {
     let (letter, fields) = read_by::<RowLetter>(bytes)?;
-    if fields.lots == 0 {
-        return Err(Refusal::BadField);
-    }
     letter.row(&fields)
 }
 

@@ -25,13 +25,15 @@ use Rattle.terms.specs.declared.rows.Row.the-variants.{ClassLots, Leg}
 use Rattle.terms.specs.declared.holdings.Side.{Side}
 use Rattle.terms.specs.declared.holdings.Side.the-variants.{Long, Short}
 
--- The bonds AAAAAAAA and BBBBBBBB.
+-- The bond AAAAAAAA.
 abbrev pub bond-a : BondCode
 bond-a = record { bytes = replicate 8 65 }
 
+-- The bond BBBBBBBB.
 abbrev pub bond-b : BondCode
 bond-b = record { bytes = replicate 8 66 }
 
+-- A row of the opening.
 abbrev holding : ℕ → ℕ → Side → ℕ → Holding
 holding a d s n = record { account = a; day = d; side = s; lots = n }
 
@@ -41,16 +43,19 @@ month-m = opening 20090 20103 (10 ∷ 11 ∷ 20 ∷ 30 ∷ 40 ∷ [])
     (holding 10 0 Short 10 ∷ holding 11 0 Short 8 ∷ holding 20 20001 Long 6 ∷ holding 30 20001 Long 3 ∷ holding 30 20050 Long 5
     ∷ holding 40 20060 Long 4 ∷ [])
 
+-- Lots of a bond.
 abbrev bond-lots : BondCode → ℕ → BondLots
 bond-lots b n = record { bond = b; lots = n }
 
--- It after 40 declares to buy 4 lots, and 10 to sell 7 of bond A and 3 of bond B.
+-- An unused entry.
 abbrev unused : BondLots
 unused = bond-lots (record { bytes = replicate 8 0 }) 0
 
+-- The bonds that 10 declares: 7 lots of bond A and 3 of bond B.
 abbrev pub bonds-10 : List BondLots
 bonds-10 = bond-lots bond-a 7 ∷ bond-lots bond-b 3 ∷ unused ∷ unused ∷ []
 
+-- The month after 40 declares to buy 4 lots, and 10 to sell its bonds.
 abbrev pub declared-m : Month
 declared-m = declare 10 (to-sell bonds-10) (declare 40 (to-buy 4) month-m)
 
@@ -73,6 +78,7 @@ final-m = record {
   declarations = declared-m .declarations;
 }
 
+-- The rows of the final draw.
 abbrev pub final-rows-m : List Row
 final-rows-m = ClassLots Declared 40 20060 4 ∷ ClassLots Virtual 20 20001 4 ∷ ClassLots Virtual 30 20001 2
     ∷ Leg 10 20 4 (Some bond-a) ∷ Leg 10 30 2 (Some bond-a) ∷ Leg 10 40 1 (Some bond-a) ∷ Leg 10 40 3 (Some bond-b)
@@ -83,10 +89,12 @@ final-rows-m = ClassLots Declared 40 20060 4 ∷ ClassLots Virtual 20 20001 4 �
 abbrev pub bonds-11 : List BondLots
 bonds-11 = bond-lots bond-a 3 ∷ unused ∷ unused ∷ unused ∷ []
 
+-- The month on the second day, before its draw.
 abbrev pub second-m : Month
 second-m = declare 11 (to-sell bonds-11) (declare 30 (to-buy 2) (declare 20 nothing (declare 20 (to-buy 1)
     (trade 40 10 2 (start-day 20091 (draw (told rows-m) declared-m))))))
 
+-- The rows of the second draw.
 abbrev pub second-rows-m : List Row
 second-rows-m = ClassLots Declared 30 20001 1 ∷ ClassLots Declared 30 20050 1 ∷ ClassLots Undeclared 20 20001 1
     ∷ Leg 11 20 1 (Some bond-a) ∷ Leg 11 30 2 (Some bond-a) ∷ []
@@ -98,15 +106,17 @@ calls-m = OpenTrial ∷ DeclarePurchase 510 40 3 ∷ DropTrial ∷ DeclarePurcha
     ∷ NextDay ∷ Preview 20091 ∷ LegResult 0 0 0 ∷ LegResult 1 0 0 ∷ LegResult 2 0 0 ∷ LegResult 3 0 0
     ∷ OpenTrial ∷ Trade 40 10 2 ∷ KeepTrial ∷ DeclarePurchase 510 20 1 ∷ Withdraw 511 20 ∷ DeclarePurchase 511 30 2 ∷ DeclareSale 511 11 3 bonds-11 ∷ Draw ∷ []
 
+-- What the calls of the run answered.
 abbrev pub answers-m : Answers
 answers-m = granted [] ∷ granted [] ∷ granted [] ∷ granted [] ∷ granted [] ∷ refused 30 ∷ granted rows-m
     ∷ granted [] ∷ granted [] ∷ granted [] ∷ granted [] ∷ granted [] ∷ granted []
     ∷ granted [] ∷ granted [] ∷ granted [] ∷ granted [] ∷ granted [] ∷ granted [] ∷ granted [] ∷ granted second-rows-m ∷ []
 
--- The law holds of it.
+-- What the run stands under.
 abbrev pub setup-m : Setup
 setup-m = record { business = weekdays; share = running; start = month-m }
 
+-- The law, of this run.
 abbrev pub Law-m : Type 0
 Law-m = MonthLaw setup-m calls-m answers-m
 

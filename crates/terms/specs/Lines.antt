@@ -12,12 +12,15 @@ pub record Part : Type 0 where
   pub account : ℕ
   pub lots : ℕ
 
+-- a part, from its account and lots
 abbrev pub part : ℕ → ℕ → Part
 part a n = record { account = a; lots = n }
 
+-- the lots of an account on a line
 abbrev pub of-account : ℕ → List Part → ℕ
 of-account a ps = sumBy (λ (p : Part). cond (eqb (p .account) a) (p .lots) 0) ps
 
+-- all lots on a line
 abbrev pub lots-on-line : List Part → ℕ
 lots-on-line ps = sumBy (λ (p : Part). p .lots) ps
 

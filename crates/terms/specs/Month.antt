@@ -26,17 +26,19 @@ pub record Month : Type 0 where
   pub positions : ℕ → Position
   pub declarations : ℕ → Declaration
 
--- The opening: the first day, with the positions of the rows and no declaration.
+-- Whether a row of the opening is a long one.
 abbrev pub is-long : Side → Bool
 is-long Long = true
 is-long Short = false
 
+-- The position that the rows give an account.
 abbrev pub opening-position : List Holding → ℕ → Position
 opening-position rows a = record {
   long = map (λ (h : Holding). dated (h .day) (h .lots)) (kept-by (λ (h : Holding). eqb (h .account) a && is-long (h .side)) rows);
   short = sumBy (λ (h : Holding). cond (eqb (h .account) a && not (is-long (h .side))) (h .lots) 0) rows;
 }
 
+-- The month as it is opened: on its first day, with no declaration.
 abbrev pub opening : ℕ → ℕ → List ℕ → List Holding → Month
 opening first last accounts rows = record {
   accounts = accounts;
@@ -46,21 +48,23 @@ opening first last accounts rows = record {
   declarations = λ a. nothing;
 }
 
--- The declared quantity on each side. A seller's is the total of its bonds.
+-- The lots that a seller declares: the total of its bonds.
 abbrev pub declared-sale : Declaration → ℕ
 declared-sale nothing = 0
 declared-sale (to-buy n) = 0
 declared-sale (to-sell bonds) = sumBy (λ (b : BondLots). b .lots) bonds
 
+-- The lots that a buyer declares.
 abbrev pub declared-purchase : Declaration → ℕ
 declared-purchase nothing = 0
 declared-purchase (to-buy n) = n
 declared-purchase (to-sell bonds) = 0
 
--- The effective quantity: the smaller of the declared quantity and the lots held on that side at the close.
+-- The effective quantity of a seller: the smaller of the declared quantity and the lots held on that side at the close.
 abbrev pub effective-sale : Month → ℕ → ℕ
 effective-sale m a = min (declared-sale (m .declarations a)) (m .positions a .short)
 
+-- The same of a buyer.
 abbrev pub effective-purchase : Month → ℕ → ℕ
 effective-purchase m a = min (declared-purchase (m .declarations a)) (lots-in (m .positions a .long))
 
@@ -91,18 +95,21 @@ lots-there m a d Virtual = cond (final m) (held m a d - covered m a d) 0
 abbrev pub holders : Month → Class → ℕ → List ℕ
 holders m c d = kept-by (λ a. ltb 0 (lots-there m a d c)) (m .accounts)
 
--- The days of purchase of all long lots, in rising order and each once.
+-- A day put among rising days, if it is not there.
 abbrev pub with-day : ℕ → List ℕ → List ℕ
 with-day d [] = d ∷ []
 with-day d (e ∷ es) = cond (ltb d e) (d ∷ e ∷ es) (cond (eqb d e) (e ∷ es) (e ∷ with-day d es))
 
+-- The days of some lots, put among other days.
 abbrev pub with-days : List Dated → List ℕ → List ℕ
 with-days [] days = days
 with-days (l ∷ ls) days = with-day (l .day) (with-days ls days)
 
+-- The days of the lots of some accounts.
 abbrev pub days-among : (ℕ → Position) → List ℕ → List ℕ
 days-among positions [] = []
 days-among positions (a ∷ rest) = with-days (positions a .long) (days-among positions rest)
 
+-- The days of the lots of all accounts.
 abbrev pub purchase-days : Month → List ℕ
 purchase-days m = days-among (m .positions) (m .accounts)

@@ -19,6 +19,7 @@ pub record Pair : Type 0 where
   pub buyer : ℕ
   pub lots : ℕ
 
+-- A pair, from its seller, buyer and lots.
 abbrev pub pair : ℕ → ℕ → ℕ → Pair
 pair s b n = record { seller = s; buyer = b; lots = n }
 
@@ -34,6 +35,7 @@ with-row ps (Leg s b n (Some bond)) = with-leg s b n ps
 with-row ps (Leg s b n None) = ps
 with-row ps (Refused number) = ps
 
+-- The first list of the rows of a draw.
 abbrev pub delivery-pairs : List Row → List Pair
 delivery-pairs rows = folded with-row [] rows
 
@@ -45,10 +47,11 @@ failure-pairs (Leg s b n (Some bond) ∷ rows) = failure-pairs rows
 failure-pairs (Leg s b n None ∷ rows) = pair s b n ∷ failure-pairs rows
 failure-pairs (Refused number ∷ rows) = failure-pairs rows
 
--- What an account sells, and buys, in a list of pairs.
+-- What an account sells in a list of pairs.
 abbrev pub sold-in : List Pair → ℕ → ℕ
 sold-in ps a = sumBy (λ (p : Pair). cond (eqb (p .seller) a) (p .lots) 0) ps
 
+-- What an account buys in a list of pairs.
 abbrev pub bought-in : List Pair → ℕ → ℕ
 bought-in ps a = sumBy (λ (p : Pair). cond (eqb (p .buyer) a) (p .lots) 0) ps
 
@@ -64,6 +67,7 @@ pub record Pairing (accounts : List ℕ) (to-sell to-buy : ℕ → ℕ) (ps : Li
 abbrev pub unsold : Month → ℕ → ℕ
 unsold m a = cond (final m) (m .positions a .short - effective-sale m a) 0
 
+-- The long lots of the second list.
 abbrev pub unbought : Month → Selection → ℕ → ℕ
 unbought m sel a = cond (final m) (lots-in (m .positions a .long) - taken-from m sel a) 0
 

@@ -58,6 +58,7 @@ position-after m sel a = record {
   short = cond (final m) 0 (m .positions a .short - effective-sale m a);
 }
 
+-- A draw, whose selection is given.
 abbrev pub draw : Selection → Month → Month
 draw sel m = record {
   accounts = m .accounts;

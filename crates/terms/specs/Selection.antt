@@ -29,16 +29,19 @@ told-by (ClassLots class account day lots) a d c = cond (eqb account a && eqb da
 told-by (Leg seller buyer lots bond) a d c = 0
 told-by (Refused number) a d c = 0
 
+-- The selection that all rows of a draw tell.
 abbrev pub told : List Row → Selection
 told rows a d c = sumBy (λ (r : Row). told-by r a d c) rows
 
--- The lots taken from an account and day, of every class; from an account; and from the accounts with lots of a class and day.
+-- The lots taken from an account and day, of every class.
 abbrev pub taken-on : Selection → ℕ → ℕ → ℕ
 taken-on sel a d = sel a d Declared + sel a d Undeclared + sel a d Virtual
 
+-- The lots taken from an account, of every day and class.
 abbrev pub taken-from : Month → Selection → ℕ → ℕ
 taken-from m sel a = sumBy (taken-on sel a) (purchase-days m)
 
+-- The lots taken from the accounts with lots of a class and day.
 abbrev pub taken-there : Month → Selection → Class → ℕ → ℕ
 taken-there m sel c d = sumBy (λ a. sel a d c) (holders m c d)
 

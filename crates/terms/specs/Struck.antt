@@ -17,6 +17,7 @@ granted-onto done (c ∷ calls) [] = done
 granted-onto done (c ∷ calls) (refused n ∷ answers) = granted-onto done calls answers
 granted-onto done (c ∷ calls) (granted rows ∷ answers) = granted-onto (c ∷ done) calls answers
 
+-- The granted calls of a list.
 abbrev pub granted-calls : List Call → Answers → List Call
 granted-calls calls answers = granted-onto [] calls answers
 
@@ -24,6 +25,7 @@ granted-calls calls answers = granted-onto [] calls answers
 pub data Bracket : Type 0 where
   opens keeps drops inside : Bracket
 
+-- What each call is to the trials.
 abbrev pub bracket : Call → Bracket
 bracket (Trade buyer seller lots) = inside
 bracket (DeclarePurchase minute account lots) = inside
@@ -49,6 +51,7 @@ strike-call drops c earlier (suc missing) = earlier (suc (suc missing))
 strike-call inside c earlier zero = c ∷ earlier 0
 strike-call inside c earlier (suc missing) = earlier (suc missing)
 
+-- The calls that stand, read back from the latest.
 abbrev pub strike : List Call → ℕ → List Call
 strike [] missing = []
 strike (c ∷ calls) missing = strike-call (bracket c) c (strike calls) missing

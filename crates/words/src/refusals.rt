@@ -12,7 +12,7 @@ pub impl fmt::Display for Words<Refusal> as RefusalWords {
 }
 
 // What a refusal means.
-pub fn meaning(refusal: Refusal) -> &'static str {
+fn meaning(refusal: Refusal) -> &'static str {
     match refusal {
         Refusal::WrongLength => "a record has 64 bytes",
         Refusal::UnknownLetter => "the letter is not one that is read here",
