@@ -3,12 +3,9 @@ use Prim.Native.Nat.{ℕ, _+_, _<_, _≤_}
 use mathlib.Core.Path.{_≡_, ap, sym, _∙_}
 use mathlib.Core.Bool.{Bool, true, false, _&&_}
 use mathlib.Core.List.{List}
-use mathlib.Core.Logic.{_⊎_, inl, inr}
-use lib.Dec.{leb}
 use lib.ListN.{length, getD, drop}
 use Rattle.std.proofs.shelf.Lists.{at-drop-more, at-drop-all}
-use Rattle.std.proofs.shelf.Tests.{and-left, and-right, and-from, lt-leb, le-leb}
-use Rattle.terms.specs.Codes.{each, between}
+use Rattle.terms.specs.Codes.{each}
 
 -- an element that passes leaves the test to the rest; t is the test's outcome, as the loop began
 pub each-more : {A : Type 0} {t : Bool} (p : A → Bool) (xs : List A) (i : ℕ) (d : A) → i < length xs → p (getD xs i d) ≡ true →
@@ -23,10 +20,3 @@ each-fails p xs i d l h inv = sym inv ∙ at-drop-more (each p) xs i d l ∙ ap 
 -- at the end all have passed
 pub each-all : {A : Type 0} {t : Bool} (p : A → Bool) (xs : List A) (i : ℕ) → length xs ≤ i → each p (drop i xs) ≡ t → t ≡ true
 each-all p xs i l inv = sym inv ∙ at-drop-all (each p) xs i l
-
-pub outside : (low high n : ℕ) → (n < low) ⊎ ((low ≤ n) × (high < n)) → between low high n ≡ false
-outside low high n (inl l) = and-left (leb low n) (leb n high) (lt-leb low n l)
-outside low high n (inr l) = and-right (leb low n) (leb n high) (lt-leb n high (l .1))
-
-pub inside : (low high n : ℕ) → low ≤ n → n ≤ high → between low high n ≡ true
-inside low high n l h = and-from (leb low n) (leb n high) (le-leb low n l) (le-leb n high h)

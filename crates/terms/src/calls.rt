@@ -11,13 +11,20 @@ pub struct BondCode {
     pub bytes: [u8; 8],
 }
 
+// Whether a byte lies between two others, both included.
+fn is_between(b: u8, low: u8, high: u8) -> bool
+    ensures { λ r. ⌜ r ≡ between low high b ⌝ }
+{
+    low <= b && b <= high
+}
+
 impl BondCode {
     // Whether every byte lies between two bytes, both included.
     pub fn lies_between(&self, low: u8, high: u8) -> bool
         ensures { λ r. ⌜ r ≡ each (between low high) (now (self .entry) .bytes) ⌝ }
     {
         for b in self.bytes {
-            if b < low || high < b {
+            if !is_between(b, low, high) {
                 return false;
             }
         }
