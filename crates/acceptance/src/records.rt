@@ -96,56 +96,36 @@ fn row_there_and_back(row: Row, letter: u8) -> Result<(), Fail> {
     check(write_row(&read) == bytes)
 }
 
+fn lots_of(class: Class) -> Row {
+    Row::ClassLots {
+        class,
+        account: 40,
+        day: 20_060,
+        lots: 4,
+    }
+}
+
+fn leg(bond: Option<BondCode>) -> Row {
+    Row::Leg {
+        seller: 11,
+        buyer: 30,
+        lots: 6,
+        bond,
+    }
+}
+
 #[test]
 fn every_row() -> Result<(), Fail> {
+    row_there_and_back(lots_of(Class::Declared), b'D')?;
+    row_there_and_back(lots_of(Class::Undeclared), b'U')?;
+    row_there_and_back(lots_of(Class::Virtual), b'V')?;
     row_there_and_back(
-        Row::ClassLots {
-            class: Class::Declared,
-            account: 40,
-            day: 20_060,
-            lots: 4,
-        },
-        b'D',
-    )?;
-    row_there_and_back(
-        Row::ClassLots {
-            class: Class::Undeclared,
-            account: 20,
-            day: 20_001,
-            lots: 4,
-        },
-        b'U',
-    )?;
-    row_there_and_back(
-        Row::ClassLots {
-            class: Class::Virtual,
-            account: 30,
-            day: 20_001,
-            lots: 2,
-        },
-        b'V',
-    )?;
-    let code = Some(BondCode {
-        bytes: *b"AAAAAAAA",
-    });
-    row_there_and_back(
-        Row::Leg {
-            seller: 10,
-            buyer: 20,
-            lots: 4,
-            bond: code,
-        },
+        leg(Some(BondCode {
+            bytes: *b"AAAAAAAA",
+        })),
         b'L',
     )?;
-    row_there_and_back(
-        Row::Leg {
-            seller: 11,
-            buyer: 30,
-            lots: 6,
-            bond: None,
-        },
-        b'L',
-    )?;
+    row_there_and_back(leg(None), b'L')?;
     row_there_and_back(Row::Refused { number: 30 }, b'Z')
 }
 

@@ -28,12 +28,12 @@ told (by.Row r) = a-row r
 told (by.Refused e) = none (number e)
 told (by.Cut n) = cut n
 
--- 64 bytes: a call, or, if the letter is no call's, a row.
+-- What 64 bytes are as a row.
 abbrev pub as-row : Answer Row → Told
 as-row (granted r) = a-row r
 as-row (refused n) = none n
 
--- A call, or, if the letter is no call's, what the bytes are as a row.
+-- What 64 bytes are: a call, or, if the letter is no call's, what they are as a row.
 abbrev pub as-call : Answer Call → Answer Row → Told
 as-call (granted c) row = a-call c
 as-call (refused n) row = cond (eqb n 2) (as-row row) (none n)

@@ -47,6 +47,32 @@ pub impl fmt::Display for Words<[BondLots; 4]> as EntriesWords {
     }
 }
 
+// What both declarations tell.
+fn write_declaration<W: fmt::Write>(
+    f: &mut fmt::Formatter<W>,
+    side: &str,
+    minute: u16,
+    account: u32,
+    lots: u32,
+) -> fmt::Result {
+    write!(
+        f,
+        "{side} declaration, minute {minute}, account {account}, lots {lots}"
+    )
+}
+
+// A sale declaration, with its entries.
+fn write_sale<W: fmt::Write>(
+    f: &mut fmt::Formatter<W>,
+    minute: u16,
+    account: u32,
+    lots: u32,
+    bonds: Words<[BondLots; 4]>,
+) -> fmt::Result {
+    write_declaration(f, "sale", minute, account, lots)?;
+    write!(f, ", bonds {bonds}")
+}
+
 pub impl fmt::Display for Words<Call> as CallWords {
     fn fmt<W: fmt::Write>(&self, f: &mut fmt::Formatter<W>) -> fmt::Result {
         match self.0 {
@@ -59,24 +85,13 @@ pub impl fmt::Display for Words<Call> as CallWords {
                 minute,
                 account,
                 lots,
-            } => {
-                write!(
-                    f,
-                    "purchase declaration, minute {minute}, account {account}, lots {lots}"
-                )
-            }
+            } => write_declaration(f, "purchase", minute, account, lots),
             Call::DeclareSale {
                 minute,
                 account,
                 lots,
                 bonds,
-            } => {
-                let bonds = Words(bonds);
-                write!(
-                    f,
-                    "sale declaration, minute {minute}, account {account}, lots {lots}, bonds {bonds}"
-                )
-            }
+            } => write_sale(f, minute, account, lots, Words(bonds)),
             Call::Withdraw { minute, account } => write!(
                 f,
                 "withdrawal, minute {minute}, account {account}"

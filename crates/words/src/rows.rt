@@ -18,6 +18,17 @@ pub impl fmt::Display for Words<Class> as ClassWords {
     }
 }
 
+// A refused call: the number, and what it means if it is a refusal's.
+fn write_refused<W: fmt::Write>(f: &mut fmt::Formatter<W>, number: u32) -> fmt::Result {
+    match Refusal::of_number(number) {
+        Some(refusal) => {
+            let refusal = Words(refusal);
+            write!(f, "refused with {refusal}")
+        }
+        None => write!(f, "refused with {number}: no refusal has this number"),
+    }
+}
+
 pub impl fmt::Display for Words<Row> as RowWords {
     fn fmt<W: fmt::Write>(&self, f: &mut fmt::Formatter<W>) -> fmt::Result {
         match self.0 {
@@ -51,13 +62,7 @@ pub impl fmt::Display for Words<Row> as RowWords {
                 f,
                 "failure leg, seller {seller}, buyer {buyer}, lots {lots}"
             ),
-            Row::Refused { number } => match Refusal::of_number(number) {
-                Some(refusal) => {
-                    let refusal = Words(refusal);
-                    write!(f, "refused with {refusal}")
-                }
-                None => write!(f, "refused with {number}: no refusal has this number"),
-            },
+            Row::Refused { number } => write_refused(f, number),
         }
     }
 }
