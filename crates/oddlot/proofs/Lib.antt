@@ -1,0 +1,6 @@
+mod Tally
+mod First
+mod Bounds
+mod Fair
+mod Shareable
+mod Steps

@@ -1,0 +1,4 @@
+pub mod Facts
+pub mod House
+pub mod Priorities
+pub mod Sharing
