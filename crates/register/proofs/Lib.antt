@@ -1,0 +1,4 @@
+mod Bytes
+mod Rising
+mod Placing
+mod Copying
