@@ -5,6 +5,7 @@ ghost use mathlib.Core.Path.{_≡_};
 ghost use lib.Dec.{ltb};
 ghost use lib.ListN.{length, set, take};
 ghost use Rattle.terms.specs.Answers.{answered};
+ghost use Rattle.terms.specs.Month.{has};
 ghost use Rattle.calendar.specs.Days.{without, named-answer, named-after};
 use crate::calendars::Calendar;
 use crate::lists::holds;
@@ -18,6 +19,14 @@ struct DayTable {
 }
 
 impl DayTable {
+    // Whether a day is named.
+    fn names(&self, day: u32) -> bool
+        requires { ⌜ now self .count ≤ 64 ⌝ }
+        ensures { λ r. ⌜ r ≡ has day (take (now (self .entry) .count) (now (self .entry) .days)) ⌝ }
+    {
+        holds(&self.days[..self.count], day)
+    }
+
     // Whether one more day can be named.
     fn has_room(&self) -> bool
         ensures { λ r. ⌜ r ≡ ltb (now (self .entry) .count) 64 ⌝ }
@@ -66,7 +75,7 @@ impl<C: Calendar> Closings<C> {
         ensures named { λ _. ⌜ take (now (self .exit) .named .count) (now (self .exit) .named .days) ≡ named-after day (take (now (self .entry) .named .count) (now (self .entry) .named .days)) ⌝ }
         ensures below { λ _. ⌜ now (self .exit) .below ≡ now (self .entry) .below ⌝ }
     {
-        if holds(&self.named.days[..self.named.count], day) {
+        if self.named.names(day) {
             return Ok(());
         }
         if !self.named.has_room() {
@@ -81,6 +90,6 @@ pub impl<C: Calendar> Calendar for Closings<C> as ClosingsCalendar {
     ghost business = { λ c. without (take (c .named .count) (c .named .days)) (C·Calendar .business (c .below)) };
 
     fn is_business_day(&self, day: u32) -> bool {
-        !holds(&self.named.days[..self.named.count], day) && self.below.is_business_day(day)
+        !self.named.names(day) && self.below.is_business_day(day)
     }
 }

@@ -11,7 +11,7 @@ ghost use Rattle.register.specs.Places.{registrable, place-of, Placed};
 use crate::keys::Key;
 use crate::keys::is_rising;
 
-// Up to N keys, in rising order if made by `new`, and there is no other way.
+// Up to N keys. Only `new` makes one, and from rising keys alone.
 #[derive(Drop)]
 pub struct Register<K: Key, const N: usize> {
     keys: [K; N],

@@ -12,6 +12,6 @@ returns g c =
     let h : n < 64 = ltb-true n 64 (sym (c .if-not-has-room .ensures tt)) in
     record {
       answer = new-granted (c .args .day) n (t .named .days) (t .long) h;
-      named = rw (c .add .ensures .count, c .add .ensures .days) (new-named (c .args .day) n (t .named .days) (t .long) h (sym (c .if-holds .ensures tt)));
+      named = rw (c .add .ensures .count, c .add .ensures .days) (new-named (c .args .day) n (t .named .days) (t .long) h (sym (c .if-names .ensures tt)));
       below = search needs;
     }
