@@ -1,5 +1,5 @@
 // What a calendar is, and the next business day by any calendar.
-ghost use Prim.Native.Nat.{ℕ, _<_, _≤_};
+ghost use Prim.Native.Nat.{ℕ, _<_};
 ghost use mathlib.Core.Bool.{Bool, false};
 ghost use mathlib.Core.Path.{_≡_};
 ghost use Rattle.calendar.specs.Days.{NextWithin};

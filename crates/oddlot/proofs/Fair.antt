@@ -1,24 +1,22 @@
 -- A rule by a priority keeps the meaning of an odd-lot rule. Assumes nothing.
-use Prim.Native.Nat.{ℕ, suc, _+_, _-_, _*_, _/_, _%_, _≤_, _<_}
-use mathlib.Core.Path.{_≡_, refl, sym, ap, _∙_, subst}
-use mathlib.Core.Bool.{Bool, true, false, cond}
-use mathlib.Core.List.{List, [], _∷_, map}
+use Prim.Native.Nat.{ℕ, _+_, _-_, _*_, _/_, _%_, _≤_, _<_}
+use mathlib.Core.Path.{_≡_, ap, _∙_}
+use mathlib.Core.Bool.{cond}
+use mathlib.Core.List.{List, [], _∷_}
 use mathlib.Core.Logic.{inl, inr}
-use native.Mathlib.Nat.{add-mul, mul-comm, zero-mul, le-of-mul-le-mul-right, mul-le-mul-right, div-add-mod'}
+use native.Mathlib.Nat.{add-mul, mul-comm, zero-mul, le-of-mul-le-mul-right, div-add-mod'}
 use native.Mathlib.Omega.{arith}
 use lib.Dec.{ltb}
 use lib.ListN.{length, getD}
-use Rattle.std.specs.Iters.{counting}
 use Rattle.std.specs.shelf.Lists.{sum, sumBy, countBy, All}
 use Rattle.std.proofs.shelf.Bits.{le-div, mod-below}
 use Rattle.std.proofs.shelf.Counted.{length-map-counting, getD-map-counting}
-use Rattle.std.proofs.shelf.Elements.{all-getD}
 use Rattle.std.proofs.shelf.Sums.{sumBy-cons, countBy-le-length}
 use Rattle.std.proofs.shelf.Tests.{cases-lt, lt-ltb, le-ltb}
 use Rattle.terms.specs.OddLots.{Shareable, KeepsMeaning}
 use Rattle.terms.proofs.Fill.{sum-positive}
 use Rattle.oddlot.specs.Priorities.{ahead, first-by, rounded, standing, part-by, by-priority}
-use Rattle.oddlot.proofs.Tally.{tally, tally-add, tally-list, tally-counted, passed, failed}
+use Rattle.oddlot.proofs.Tally.{tally-add, tally-list, tally-counted, passed, failed}
 use Rattle.oddlot.proofs.First.{ahead-least, first-tally}
 
 -- the shares rounded down and what rounding leaves make up the whole
@@ -53,9 +51,6 @@ module _ (rank : ℕ → ℕ → ℕ) (broken : (lots remainder : ℕ) → 1 ≤
       ]
 
   module _ (none : (lots : ℕ) → rank lots 0 ≡ 0) (lots : List ℕ) (n : ℕ) (s : Shareable lots n) where
-    t : ℕ
-    t = sum lots
-
     pos : 0 < sum lots
     pos = sum-positive lots (s .sizes) (s .some)
 

@@ -1,16 +1,15 @@
 -- The first entries of a list by a priority: how many there are, and that an entry of no priority is none of them while others are left. Assumes nothing.
-use Prim.Native.Nat.{ℕ, zero, suc, _+_, _-_, _≤_, _<_}
-use mathlib.Core.Path.{_≡_, refl, sym, ap, _∙_}
-use mathlib.Core.Bool.{Bool, true, false, cond}
-use mathlib.Core.List.{List, [], _∷_, map}
+use Prim.Native.Nat.{ℕ, suc, _+_, _-_, _≤_, _<_}
+use mathlib.Core.Path.{_≡_, sym, ap, _∙_}
+use mathlib.Core.Bool.{Bool, true, cond}
+use mathlib.Core.List.{List, [], _∷_}
 use mathlib.Core.Logic.{inl, inr}
 use native.Mathlib.Omega.{arith}
 use lib.Dec.{leb, ltb}
 use lib.ListN.{length, getD, take, drop}
-use Rattle.std.specs.Iters.{counting}
-use Rattle.std.specs.shelf.Lists.{sum, sumBy, countBy}
+use Rattle.std.specs.shelf.Lists.{countBy}
 use Rattle.std.proofs.shelf.Sums.{sumBy-cons, countBy-le-length}
-use Rattle.std.proofs.shelf.Tests.{cases-lt, cases-bool, ltb-true, ltb-false, leb-true, leb-false, lt-ltb, le-ltb, le-leb, lt-leb}
+use Rattle.std.proofs.shelf.Tests.{cases-lt, cases-bool, ltb-true, leb-true, lt-ltb, le-ltb, le-leb, lt-leb}
 use Rattle.terms.proofs.Sums.{sum-le}
 use Rattle.oddlot.specs.Priorities.{ahead, first-by, First-count}
 use Rattle.oddlot.proofs.Tally.{tally, tally-same, tally-counted, count-cut, passed, failed}

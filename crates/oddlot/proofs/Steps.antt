@@ -1,13 +1,13 @@
 -- One turn of the loops that write parts. Assumes nothing.
 use Prim.Native.Nat.{ℕ, _+_, _-_, _*_, _/_, _≤_, _<_}
-use mathlib.Core.Path.{_≡_, refl, sym, ap, _∙_}
-use mathlib.Core.Bool.{Bool, cond}
+use mathlib.Core.Path.{_≡_, sym, ap, _∙_}
+use mathlib.Core.Bool.{cond}
 use mathlib.Core.List.{List, [], _∷_, _++_, append-assoc, append-nil}
 use native.Mathlib.Numerals.{add-one}
 use native.Mathlib.Omega.{arith}
 use lib.Dec.{leb, ltb}
 use lib.ListN.{length, getD, take, drop, set}
-use Rattle.std.specs.shelf.Lists.{sum, sumBy, countBy}
+use Rattle.std.specs.shelf.Lists.{sum, countBy}
 use Rattle.std.proofs.shelf.Lists.{at-drop-more, at-drop-all, take-more-set, take-all}
 use Rattle.std.proofs.shelf.Sums.{sumBy-more, sumBy-take-le}
 use Rattle.terms.specs.OddLots.{running-from}

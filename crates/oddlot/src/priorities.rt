@@ -5,7 +5,7 @@ ghost use mathlib.Core.Path.{_≡_};
 ghost use lib.Dec.{leb};
 ghost use lib.ListN.{length, getD};
 ghost use Rattle.std.specs.shelf.Lists.{sum, sumBy, countBy};
-ghost use Rattle.oddlot.specs.Priorities.{ahead, first-by, part-by, by-priority, largest-remainder, rounded, standing};
+ghost use Rattle.oddlot.specs.Priorities.{ahead, first-by, by-priority, largest-remainder, rounded, standing};
 ghost use Rattle.oddlot.specs.Sharing.{can-split};
 use crate::checks::can_split;
 use crate::rules::OddLots;

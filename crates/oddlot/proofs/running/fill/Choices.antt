@@ -1,7 +1,6 @@
-use Prim.Native.Nat.{_+_}
 use mathlib.Core.Path.{_≡_}
 use mathlib.Core.List.{_++_}
-use lib.ListN.{take, drop, length}
+use lib.ListN.{take, drop}
 use Rattle.std.specs.shelf.Lists.{sum}
 use Rattle.terms.specs.OddLots.{running, running-from}
 use Rattle.oddlot.proofs.running.fill.Given as given

@@ -1,4 +1,3 @@
-use mathlib.Core.Path.{sym, subst}
 use native.Mathlib.Omega.{arith}
 use Rattle.oddlot.proofs.Bounds.{share-le}
 use Rattle.oddlot.proofs.shares.Sharing.rounded.Needs as need
