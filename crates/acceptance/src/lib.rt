@@ -1,4 +1,6 @@
 // Examples of the other crates at work, as tests.
+#![tactic(auto)]
+
 #[cfg(test)]
 mod days;
 #[cfg(test)]

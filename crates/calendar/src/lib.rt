@@ -1,4 +1,6 @@
 // Calendars: sets of business days.
+#![tactic(auto)]
+
 pub mod calendars;
 pub mod closings;
 pub mod listed;

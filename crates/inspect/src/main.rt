@@ -1,4 +1,6 @@
 // Puts a file of call and row records, read from standard input, into words: a line a record.
+#![tactic(auto)]
+
 mod file;
 mod seen;
 

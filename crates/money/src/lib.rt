@@ -1,4 +1,6 @@
 // Money of a leg: interest, cost, differences, performance sums, and the settlement.
+#![tactic(auto)]
+
 pub mod amounts;
 pub mod coupons;
 pub mod facts;

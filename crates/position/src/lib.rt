@@ -1,4 +1,6 @@
 // Positions: what an account holds, changed by value and written back whole as a row.
+#![tactic(auto)]
+
 mod canonical;
 mod changes;
 mod checks;

@@ -1,4 +1,6 @@
 // The round of a day: what is selected from the buyers, and whom the sellers deliver to.
+#![tactic(auto)]
+
 pub mod accounts;
 mod areas;
 mod bought;

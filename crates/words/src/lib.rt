@@ -1,4 +1,6 @@
 // Calls, rows and refusals in words, for people: `Words(x)` prints x.
+#![tactic(auto)]
+
 pub mod calls;
 pub mod refusals;
 pub mod rows;

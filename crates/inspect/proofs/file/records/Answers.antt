@@ -6,7 +6,7 @@ use Rattle.inspect.proofs.file.records.Goals as goal
 
 pub loop-rest-smaller : goal.loop-rest-smaller
 loop-rest-smaller c =
-    let some = eqb-false (length c.loop-rest.rest.now) 0 (sym c.is-empty.ensures ∙ c.loop-rest-test.true) in
+    let some = eqb-false (length c.loop-rest.rest.now) 0 (sym c.is_empty.ensures ∙ c.loop-rest-test.true) in
     omega (arith, some, ap length c.first-seen.ensures.next, length-drop 64 c.loop-rest.rest.now)
 
 pub loop-rest-preserved : goal.loop-rest-preserved
@@ -14,10 +14,10 @@ loop-rest-preserved c =
     let bytes = c.args.bytes.now in
     let rest = c.loop-rest.rest.now in
     let all = c.loop-rest.all in
-    let pushed = c.in-ok-push.ensures in
+    let pushed = c.in_ok-push.ensures in
     let longer : vec_len c.push.new.self ≡ vec_len all + 1 = pushed.len in
     let long : vec_len all ≡ length (vec_items all) = omega (arith, all.ok.0) in
-    let some = eqb-false (length rest) 0 (sym c.is-empty.ensures ∙ c.loop-rest-test.true) in
+    let some = eqb-false (length rest) 0 (sym c.is_empty.ensures ∙ c.loop-rest-test.true) in
     let inv = c.loop-rest.invariant in
     let more = told_more bytes rest c.first-seen.result.1.now (vec_items all) (vec_len all) c.first-seen.result.0 long inv.0
     c.first-seen.ensures.seen c.first-seen.ensures.next inv.2 in (
@@ -31,7 +31,7 @@ returns c =
     let bytes = c.args.bytes.now in
     let all = c.loop-rest.all in
     let long : vec_len all ≡ length (vec_items all) = omega (arith, all.ok.0) in
-    let none = eqb-true (length c.loop-rest.rest.now) 0 (sym c.is-empty.ensures ∙ c.loop-rest-test.false) in
+    let none = eqb-true (length c.loop-rest.rest.now) 0 (sym c.is_empty.ensures ∙ c.loop-rest-test.false) in
     let inv = c.loop-rest.invariant in
     record {
       count = omega (arith, none, long, ap length inv.0, length-drop (64 * vec_len all) bytes, inv.1);

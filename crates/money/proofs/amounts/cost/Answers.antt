@@ -7,8 +7,8 @@ most c =
     let due = due_le c.args.price.value c.args.factor.value c.args.price.high c.args.factor.high in
     lots_le c.value-2.result (c.due.result + c.value.result) (omega arith) (omega arith)
 
-pub overflow-mul-value : goal.overflow-mul-value
-overflow-mul-value c = omega (arith, most c)
+pub overflow_mul-value : goal.overflow_mul-value
+overflow_mul-value c = omega (arith, most c)
 
-pub half-up-requires : goal.half-up-requires
-half-up-requires c = (omega arith, (omega arith, omega (arith, most c)))
+pub half_up-requires : goal.half_up-requires
+half_up-requires c = (omega arith, (omega arith, omega (arith, most c)))

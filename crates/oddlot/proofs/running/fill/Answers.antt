@@ -4,8 +4,8 @@ use Rattle.oddlot.proofs.Shareable.{passed_from}
 use Rattle.oddlot.proofs.Steps.{so_far, running_more, running_all}
 use Rattle.oddlot.proofs.running.fill.Goals as goal
 
-pub overflow-add-after : goal.overflow-add-after
-overflow-add-after c = omega (arith, so_far c.args.lots.now c.loop-i.i c.loop-i-test.true, c.loop-i.invariant.0, c.among-sharing.ensures.total, c.among-sharing.result.fits)
+pub overflow_add-after : goal.overflow_add-after
+overflow_add-after c = omega (arith, so_far c.args.lots.now c.loop-i.i c.loop-i-test.true, c.loop-i.invariant.0, c.among-sharing.ensures.total, c.among-sharing.result.fits)
 
 pub between-requires : goal.between-requires
 between-requires c = (omega arith, omega (arith, so_far c.args.lots.now c.loop-i.i c.loop-i-test.true, c.loop-i.invariant.0, c.among-sharing.ensures.total))

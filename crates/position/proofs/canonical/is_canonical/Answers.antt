@@ -9,5 +9,5 @@ pub returns : goal.returns
 returns c =
     let r = c.args.row.now in
     let zeros = each (λ (l : Dated). eqb l.day 0 && eqb l.lots 0) in
-    let e : c.are-zero.result ≡ zeros (drop r.used r.dates) = c.are-zero.ensures ∙ ap zeros (take_rest r.dates r.used) in
-    e ∙ ap₂ (λ a b. a && (b && zeros (drop r.used r.dates))) (sym (le-leb r.used 16 c.if-used-gt16.false)) c.if-not-is-lawful.ensures
+    let e : c.are_zero.result ≡ zeros (drop r.used r.dates) = c.are_zero.ensures ∙ ap zeros (take_rest r.dates r.used) in
+    e ∙ ap₂ (λ a b. a && (b && zeros (drop r.used r.dates))) (sym (le-leb r.used 16 c.if-used-gt16.false)) c.if-not-is_lawful.ensures

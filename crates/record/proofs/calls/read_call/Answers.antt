@@ -10,11 +10,11 @@ use Rattle.record.proofs.calls.read_call.Goals as goal
 pub returns : goal.returns
 returns c =
     let bytes = c.args.bytes.now in
-    let letter = c.in-ok-letter.letter in
-    let f = c.in-ok-letter.fields in
-    let read = c.in-ok-letter.ensures.answer in
+    let letter = c.in_ok-letter.letter in
+    let f = c.in_ok-letter.fields in
+    let read = c.in_ok-letter.ensures.answer in
     record {
       answer = ap granted c.call.ensures ∙ ap call_answer read;
       only = ap call_bytes c.call.ensures ∙ ap (option_map laid_out) (call_kept bytes letter f (reading_granted call_letter call_layout bytes letter f read))
-          ∙ ap Some c.in-ok-letter.ensures.back;
+          ∙ ap Some c.in_ok-letter.ensures.back;
     }

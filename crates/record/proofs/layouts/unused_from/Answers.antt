@@ -3,15 +3,15 @@ use Rattle.terms.specs.Codes.{each, used}
 use Rattle.terms.proofs.Each.{each_more, each_fails, each_all}
 use Rattle.record.proofs.layouts.unused_from.Goals as goal
 
-pub returns-then-is-used : goal.returns-then-is-used
-returns-then-is-used c =
+pub returns-then-is_used : goal.returns-then-is_used
+returns-then-is_used c =
     let l : c.loop-i.i < length c.args.entries.now = search rules in
-    sym (each_fails (λ e. not (used e)) c.args.entries.now c.loop-i.i _ l (ap not (sym c.is-used.ensures ∙ c.if-is-used.true)) c.loop-i.invariant)
+    sym (each_fails (λ e. not (used e)) c.args.entries.now c.loop-i.i _ l (ap not (sym c.is_used.ensures ∙ c.if-is_used.true)) c.loop-i.invariant)
 
 pub loop-i-preserved : goal.loop-i-preserved
 loop-i-preserved c =
     let l : c.loop-i.i < length c.args.entries.now = search rules in
-    each_more (λ e. not (used e)) c.args.entries.now c.loop-i.i _ l (ap not (sym c.is-used.ensures ∙ c.if-is-used.false)) c.loop-i.invariant
+    each_more (λ e. not (used e)) c.args.entries.now c.loop-i.i _ l (ap not (sym c.is_used.ensures ∙ c.if-is_used.false)) c.loop-i.invariant
 
 pub returns : goal.returns
 returns c =

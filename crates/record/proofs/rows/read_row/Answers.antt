@@ -7,11 +7,11 @@ use Rattle.record.proofs.rows.read_row.Goals as goal
 pub returns : goal.returns
 returns c =
     let bytes = c.args.bytes.now in
-    let letter = c.in-ok-letter.letter in
-    let f = c.in-ok-letter.fields in
-    let read = c.in-ok-letter.ensures.answer in
+    let letter = c.in_ok-letter.letter in
+    let f = c.in_ok-letter.fields in
+    let read = c.in_ok-letter.ensures.answer in
     record {
       answer = c.row.ensures ∙ ap row_answer read;
-      only = row_only bytes letter f c.row.result (reading_granted row_letter row_layout bytes letter f read) c.in-ok-letter.ensures.back
+      only = row_only bytes letter f c.row.result (reading_granted row_letter row_layout bytes letter f read) c.in_ok-letter.ensures.back
           c.row.ensures;
     }

@@ -5,8 +5,8 @@ use Rattle.record.proofs.rows.write_row.Goals as goal
 
 pub returns : goal.returns
 returns c =
-    let long : length c.record-of.result ≡ 64 = search rules in
+    let long : length c.record_of.result ≡ 64 = search rules in
     record {
-      bytes = c.record-of.ensures.bytes ∙ ap laid_out c.row-fields.ensures;
-      back = row_read c.args.row.now c.record-of.result long (c.record-of.ensures.back ∙ c.row-fields.ensures);
+      bytes = c.record_of.ensures.bytes ∙ ap laid_out c.row_fields.ensures;
+      back = row_read c.args.row.now c.record_of.result long (c.record_of.ensures.back ∙ c.row_fields.ensures);
     }

@@ -13,8 +13,8 @@ loop-e-preserved c =
     let l : i < length es = search rules in
     let inv = c.loop-e.invariant in (
       search rules,
-      entry_more (take c.args.start c.args.out.now) (take c.loop-e.at c.loop-e.out) _ es i _ l inv.1 c.put-entry-at.ensures.written,
-      All-more EntryFits es i _ l inv.2 c.put-entry-at.ensures.fits,
+      entry_more (take c.args.start c.args.out.now) (take c.loop-e.at c.loop-e.out) _ es i _ l inv.1 c.put_entry-at.ensures.written,
+      All-more EntryFits es i _ l inv.2 c.put_entry-at.ensures.fits,
     )
 
 pub returns : goal.returns

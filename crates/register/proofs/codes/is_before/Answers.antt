@@ -7,7 +7,7 @@ pub returns-then-a-i : goal.returns-then-a-i
 returns-then-a-i c =
     let p : c.loop-i.i < length c.args.a.now = search rules in
     let q : c.loop-i.i < length c.args.b.now = search rules in
-    c.is-less.ensures ∙ compare_there c.args.a.now c.args.b.now c.loop-i.i p q c.if-a-i.true c.loop-i.invariant
+    c.is_less.ensures ∙ compare_there c.args.a.now c.args.b.now c.loop-i.i p q c.if-a-i.true c.loop-i.invariant
 
 pub loop-i-preserved : goal.loop-i-preserved
 loop-i-preserved c =

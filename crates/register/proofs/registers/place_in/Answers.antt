@@ -9,8 +9,8 @@ returns g c =
     let before = g.K.Key.before in
     let keys = c.args.keys.now in
     let key = c.args.key.now in
-    let at = c.count-before-at in
-    let r = c.found-at.result in
+    let at = c.count_before-at in
+    let r = c.found_at.result in
     let both : climbs before keys ≡ true → (r ≡ place_of before keys key) × Placed keys key r =
-    λ h. found_place before g.met.K.Key.order keys key at.result h (at.ensures.below h) (at.ensures.above h) r c.found-at.ensures in
+    λ h. found_place before g.met.K.Key.order keys key at.result h (at.ensures.below h) (at.ensures.above h) r c.found_at.ensures in
     record { place = λ h. (both h).0; meaning = λ h. (both h).1 }

@@ -11,8 +11,8 @@ loop-i-preserved g c =
     let table = c.loop-i.table in
     let i = c.loop-i.i in
     let l : i < length table = search rules in (
-      length-set table i c.key-at.result ∙ c.loop-i.invariant.0,
-      copied_more table c.args.keys.now i c.key-at.result l c.loop-i-test.true c.key-at.ensures c.loop-i.invariant.1,
+      length-set table i c.key_at.result ∙ c.loop-i.invariant.0,
+      copied_more table c.args.keys.now i c.key_at.result l c.loop-i-test.true c.key_at.ensures c.loop-i.invariant.1,
     )
 
 pub returns : goal.returns

@@ -6,8 +6,8 @@ use Rattle.round.specs.Bought.{by_place, bought_in}
 use Rattle.round.proofs.Blank.{blank}
 use Rattle.round.proofs.bought.fill_bought.Goals as goal
 
-pub bought-in-requires : goal.bought-in-requires
-bought-in-requires c = record { ok = each_at row_ok c.args.rows.now c.loop-i.i blank c.requires.ok (search rules); place = search rules }
+pub bought_in-requires : goal.bought_in-requires
+bought_in-requires c = record { ok = each_at row_ok c.args.rows.now c.loop-i.i blank c.requires.ok (search rules); place = search rules }
 
 pub loop-i-preserved : goal.loop-i-preserved
 loop-i-preserved c =
@@ -18,9 +18,9 @@ loop-i-preserved c =
     let f = bought_in c.args.list c.args.taking.now (is_final c.args.kind) in
     let front = take i c.loop-i.bought in
     let rest = by_place f (i + 1) (drop (i + 1) rows) in
-    ap (λ zs. zs ++ rest) (take_more_set c.loop-i.bought i c.bought-in.result k)
-    ∙ append_assoc front (c.bought-in.result ∷ []) rest
-    ∙ ap (λ n. front ++ (n ∷ rest)) c.bought-in.ensures
+    ap (λ zs. zs ++ rest) (take_more_set c.loop-i.bought i c.bought_in.result k)
+    ∙ append_assoc front (c.bought_in.result ∷ []) rest
+    ∙ ap (λ n. front ++ (n ∷ rest)) c.bought_in.ensures
     ∙ ap (λ zs. front ++ zs) (sym (at_drop_more (by_place f i) rows i blank l))
     ∙ c.loop-i.invariant
 

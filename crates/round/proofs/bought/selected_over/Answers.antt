@@ -12,7 +12,7 @@ loop-date-preserved c =
     let f = λ (d : Dated). selected_on c.args.taking.now (is_final c.args.kind) c.args.place c.args.row.now d.day in
     let l : c.loop-date.date-index < length c.args.dates.now = search rules in
     let more = sum_by_more f c.args.dates.now c.loop-date.date-index (dated 0 0) l in
-    (omega (arith, more, c.selected-on-sum.ensures.lots, c.loop-date.invariant.0), omega (arith, c.selected-on-sum.ensures.limit, c.loop-date.invariant.1))
+    (omega (arith, more, c.selected_on-sum.ensures.lots, c.loop-date.invariant.0), omega (arith, c.selected_on-sum.ensures.limit, c.loop-date.invariant.1))
 
 pub returns : goal.returns
 returns c =

@@ -7,14 +7,14 @@ use Rattle.round.specs.Groups.{lots_of}
 use Rattle.round.proofs.Blank.{blank}
 use Rattle.round.proofs.groups.group_size.Goals as goal
 
-pub lots-of-size-requires : goal.lots-of-size-requires
-lots-of-size-requires c = each_at row_ok c.args.rows.now c.loop-row.row-index blank c.requires.0 (search rules)
+pub lots_of-size-requires : goal.lots_of-size-requires
+lots_of-size-requires c = each_at row_ok c.args.rows.now c.loop-row.row-index blank c.requires.0 (search rules)
 
 pub loop-row-preserved : goal.loop-row-preserved
 loop-row-preserved c =
     let l : c.loop-row.row-index < length c.args.rows.now = search rules in
     let s = sum_by_more (lots_of (is_final c.args.kind) c.args.class c.args.day) c.args.rows.now c.loop-row.row-index blank l in
-    (omega (arith, s, c.lots-of-size.ensures.lots), omega (arith, c.lots-of-size.ensures.limit))
+    (omega (arith, s, c.lots_of-size.ensures.lots), omega (arith, c.lots_of-size.ensures.limit))
 
 pub returns : goal.returns
 returns c =

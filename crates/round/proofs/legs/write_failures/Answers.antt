@@ -8,8 +8,8 @@ use Rattle.round.proofs.Within.{filled_within}
 use Rattle.round.proofs.Served.{filled_area, filled_end}
 use Rattle.round.proofs.legs.write_failures.Goals as goal
 
-pub serve-failure-walk-requires : goal.serve-failure-walk-requires
-serve-failure-walk-requires c =
+pub serve_failure-walk-requires : goal.serve_failure-walk-requires
+serve_failure-walk-requires c =
     let far = filled_within _ _ _ _ _ _ _ _ c.loop-row.invariant in
     let start = ap (λ (w : Walk). w.at) c.coming-walk.ensures in
     record { same = c.requires.same; few = c.requires.few; room = omega (arith, far, start, length-map c.args.rows.now failure_of) }
@@ -18,7 +18,7 @@ pub loop-row-preserved : goal.loop-row-preserved
 loop-row-preserved c =
     let f = λ (rs : List AccountRow). filled c.args.rows.now c.args.bought.now c.loop-row.walk (failures_of rs) c.loop-row.area in
     let s = at_drop_more f c.args.rows.now c.loop-row.row-index blank c.loop-row-test.true in
-    let t = c.serve-failure-walk.ensures (failures_of (drop (c.loop-row.row-index + 1) c.args.rows.now)) in
+    let t = c.serve_failure-walk.ensures (failures_of (drop (c.loop-row.row-index + 1) c.args.rows.now)) in
     let i = c.loop-row.invariant in
     cc
 

@@ -16,7 +16,7 @@ loop-next-init c =
     let days : List ℕ = purchase_days (month_of rows c.args.line) in
     let f = class_rows c.args.taking.now (is_final c.args.line.kind) c.args.class rows in (
       0,
-      found_first rows c.args.line 0 c.next-day-next.result c.requires.sound c.next-day-next.ensures,
+      found_first rows c.args.line 0 c.next_day-next.result c.requires.sound c.next_day-next.ensures,
       (ap (λ ds. written c.args.at (f ds) c.args.area.now) (from_start days), ap (λ ds. c.args.at + length (f ds)) (from_start days)),
       omega arith,
       omega arith,
@@ -26,9 +26,9 @@ pub loop-next-smaller : goal.loop-next-smaller
 loop-next-smaller c =
     let rows : List AccountRow = c.args.rows.now in
     let d = c.in-Some.day in
-    let next = c.next-day-next-in-Some.result in
+    let next = c.next_day-next-in-Some.result in
     let small : d < 2 ^ 32 = search rules in
-    let f = found_first rows c.args.line (d + 1) next c.requires.sound c.next-day-next-in-Some.ensures in
+    let f = found_first rows c.args.line (d + 1) next c.requires.sound c.next_day-next-in-Some.ensures in
     subst (λ o. days_left next < days_left o) (sym c.in-Some.is) (days_fall (purchase_days (month_of rows c.args.line)) d next small f)
 
 pub loop-next-preserved : goal.loop-next-preserved
@@ -41,11 +41,11 @@ loop-next-preserved c =
     let f = subst (First (purchase_days m) from) c.in-Some.is c.loop-next.invariant.1 in
     let low = f.1 in (
       d + 1,
-      found_first rows c.args.line (d + 1) c.next-day-next-in-Some.result c.requires.sound c.next-day-next-in-Some.ensures,
+      found_first rows c.args.line (d + 1) c.next_day-next-in-Some.result c.requires.sound c.next_day-next-in-Some.ensures,
       day_more c.args.taking.now (is_final c.args.line.kind) c.args.class rows (purchase_days m) from d c.loop-next.end
-          c.loop-next.area c.write-group-end.result c.write-group-end.new.area _ _ _ (days_rising m.positions m.accounts) f
-          c.write-group-end.ensures.area c.write-group-end.ensures.end c.loop-next.invariant.2,
-      omega (arith, c.loop-next.invariant.3, c.write-group-end.ensures.room),
+          c.loop-next.area c.write_group-end.result c.write_group-end.new.area _ _ _ (days_rising m.positions m.accounts) f
+          c.write_group-end.ensures.area c.write_group-end.ensures.end c.loop-next.invariant.2,
+      omega (arith, c.loop-next.invariant.3, c.write_group-end.ensures.room),
       omega arith,
     )
 
@@ -54,7 +54,7 @@ returns c =
     let rows : List AccountRow = c.args.rows.now in
     let days : List ℕ = purchase_days (month_of rows c.args.line) in
     let from : ℕ = c.loop-next.invariant.0 in
-    let f = subst (First days from) c.in-default.is c.loop-next.invariant.1 in
+    let f = subst (First days from) c.in_default.is c.loop-next.invariant.1 in
     let e = days_all c.args.taking.now (is_final c.args.line.kind) c.args.class rows days from f in
     let g = gives_all _ c.loop-next.end c.loop-next.area _ _ _ e c.loop-next.invariant.2 in
     record { area = g.0; end = g.1; room = omega (arith, c.loop-next.invariant.3, c.loop-next.invariant.4) }

@@ -9,8 +9,8 @@ use Rattle.round.proofs.Blank.{blank}
 use Rattle.round.proofs.Writing.{place_more, gives_all}
 use Rattle.round.proofs.listing.write_group.Goals as goal
 
-pub taken-at-taken-requires : goal.taken-at-taken-requires
-taken-at-taken-requires c =
+pub taken_at-taken-requires : goal.taken_at-taken-requires
+taken_at-taken-requires c =
     record { lawful = each_at row_ok c.args.rows.now c.loop-i.i blank c.requires.lawful (search rules); place = search rules }
 
 pub loop-i-preserved : goal.loop-i-preserved
@@ -19,10 +19,10 @@ loop-i-preserved c =
     let rows : List AccountRow = c.args.rows.now in
     let i = c.loop-i.i in
     let l : i < length rows = search rules in (
-      place_more t (is_final c.args.kind) c.args.class c.args.day i rows blank c.taken-at-taken.result c.loop-i.end c.loop-i.area
-          c.put-lots-end.result c.put-lots-end.new.area _ _ _ l c.taken-at-taken.ensures.taken c.put-lots-end.ensures.area c.put-lots-end.ensures.end
+      place_more t (is_final c.args.kind) c.args.class c.args.day i rows blank c.taken_at-taken.result c.loop-i.end c.loop-i.area
+          c.put_lots-end.result c.put_lots-end.new.area _ _ _ l c.taken_at-taken.ensures.taken c.put_lots-end.ensures.area c.put_lots-end.ensures.end
           c.loop-i.invariant.0,
-      omega (arith, c.put-lots-end.ensures.room, c.loop-i.invariant.1),
+      omega (arith, c.put_lots-end.ensures.room, c.loop-i.invariant.1),
     )
 
 pub returns : goal.returns

@@ -18,13 +18,13 @@ returns-in-Final c =
     let at = c.args.at in
     let first = legs (deliveries_of rows) (line_of rows (selected_by_place t b 0 rows)) in
     let second = legs (failures_of rows) (line_of rows (left_by_place t b 0 rows)) in
-    let f = ap (λ ns. legs (deliveries_of rows) (line_of rows ns)) c.fill-bought.ensures in
-    let s = ap (λ ns. legs (failures_of rows) (line_of rows ns)) c.fill-bought-in-Final.ensures in
-    let both = both_written first second at area c.write-deliveries-end.result c.write-deliveries-end.new.area c.write-failures.result c.write-failures.new.area
-    (c.write-deliveries-end.ensures.area ∙ ap (λ rs. written at rs area) f)
-    (c.write-deliveries-end.ensures.count ∙ ap (λ rs. at + length rs) f)
-    (c.write-failures.ensures.area ∙ ap (λ rs. written c.write-deliveries-end.result rs c.write-deliveries-end.new.area) s)
-    (c.write-failures.ensures.count ∙ ap (λ rs. c.write-deliveries-end.result + length rs) s) in
+    let f = ap (λ ns. legs (deliveries_of rows) (line_of rows ns)) c.fill_bought.ensures in
+    let s = ap (λ ns. legs (failures_of rows) (line_of rows ns)) c.fill_bought-in-Final.ensures in
+    let both = both_written first second at area c.write_deliveries-end.result c.write_deliveries-end.new.area c.write_failures.result c.write_failures.new.area
+    (c.write_deliveries-end.ensures.area ∙ ap (λ rs. written at rs area) f)
+    (c.write_deliveries-end.ensures.count ∙ ap (λ rs. at + length rs) f)
+    (c.write_failures.ensures.area ∙ ap (λ rs. written c.write_deliveries-end.result rs c.write_deliveries-end.new.area) s)
+    (c.write_failures.ensures.count ∙ ap (λ rs. c.write_deliveries-end.result + length rs) s) in
     let last : b ≡ true = ap is_final c.in-Final.is in
     let e = ap (λ rs. first ++ rs) (sym (cond-true b second [] last)) in
     record { area = both.0 ∙ ap (λ rs. written at rs area) e; end = both.1 ∙ ap (λ rs. at + length rs) e }

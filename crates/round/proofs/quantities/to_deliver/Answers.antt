@@ -7,12 +7,12 @@ use Rattle.round.proofs.Blank.{blank}
 use Rattle.round.proofs.Shown.{sound_parts, row_facts}
 use Rattle.round.proofs.quantities.to_deliver.Goals as goal
 
-pub overflow-add-sum : goal.overflow-add-sum
-overflow-add-sum c =
+pub overflow_add-sum : goal.overflow_add-sum
+overflow_add-sum c =
     let s = sound_parts c.args.rows.now c.requires in
     let l : c.loop-row.row-index < length c.args.rows.now = search rules in
     let f = row_facts (get_or c.args.rows.now c.loop-row.row-index blank) (each_at row_ok c.args.rows.now c.loop-row.row-index blank s.2 l) in
-    omega (arith, s.0, f.1, c.effective-sale-sum.ensures, c.loop-row.invariant.1)
+    omega (arith, s.0, f.1, c.effective_sale-sum.ensures, c.loop-row.invariant.1)
 
 pub loop-row-preserved : goal.loop-row-preserved
 loop-row-preserved c =
@@ -20,7 +20,7 @@ loop-row-preserved c =
     let l : c.loop-row.row-index < length c.args.rows.now = search rules in
     let f = row_facts (get_or c.args.rows.now c.loop-row.row-index blank) (each_at row_ok c.args.rows.now c.loop-row.row-index blank s.2 l) in
     let more = sum_by_more sale_of c.args.rows.now c.loop-row.row-index blank l in
-    (omega (arith, more, c.effective-sale-sum.ensures, c.loop-row.invariant.0), omega (arith, f.1, c.effective-sale-sum.ensures, c.loop-row.invariant.1))
+    (omega (arith, more, c.effective_sale-sum.ensures, c.loop-row.invariant.0), omega (arith, f.1, c.effective_sale-sum.ensures, c.loop-row.invariant.1))
 
 pub returns : goal.returns
 returns c =

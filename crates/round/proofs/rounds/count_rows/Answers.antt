@@ -6,7 +6,7 @@ pub returns : goal.returns
 returns g c =
     let rows = c.args.rows.now in
     let share = g.R.OddLots.share c.args.rule.now in
-    let s = sym c.are-sound.ensures ∙ c.if-not-are-sound.false in
-    counted c.args.step share rows c.args.line c.write-with.result s
-    (c.write-with.ensures.count
-    ∙ ap length (step_shown c.args.step share rows c.args.line c.taking-for-taking.result (g.met.R.OddLots.meaning c.args.rule.now) s c.taking-for-taking.ensures))
+    let s = sym c.are_sound.ensures ∙ c.if-not-are_sound.false in
+    counted c.args.step share rows c.args.line c.write_with.result s
+    (c.write_with.ensures.count
+    ∙ ap length (step_shown c.args.step share rows c.args.line c.taking_for-taking.result (g.met.R.OddLots.meaning c.args.rule.now) s c.taking_for-taking.ensures))

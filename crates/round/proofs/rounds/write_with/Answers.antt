@@ -15,7 +15,7 @@ returns-in-Draw c =
     let t = c.args.taking.now in
     let b = is_final c.args.line.kind in
     let days = purchase_days (month_of rows c.args.line) in
-    let both = both_written (taking_rows t b rows days) (legs_of t b rows) 0 c.args.area.now c.write-taking-end.result c.write-taking-end.new.area c.write-legs-in-Draw.result c.write-legs-in-Draw.new.area
-    c.write-taking-end.ensures.area c.write-taking-end.ensures.end c.write-legs-in-Draw.ensures.area c.write-legs-in-Draw.ensures.end in
+    let both = both_written (taking_rows t b rows days) (legs_of t b rows) 0 c.args.area.now c.write_taking-end.result c.write_taking-end.new.area c.write_legs-in-Draw.result c.write_legs-in-Draw.new.area
+    c.write_taking-end.ensures.area c.write_taking-end.ensures.end c.write_legs-in-Draw.ensures.area c.write_legs-in-Draw.ensures.end in
     let e = ap (λ s. rows_with s t b rows days) (sym c.in-Draw.is) in
     record { area = both.0 ∙ ap (λ rs. written 0 rs c.args.area.now) e; count = omega (arith, both.1, ap length e) }

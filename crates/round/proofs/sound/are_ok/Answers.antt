@@ -4,15 +4,15 @@ use Rattle.round.specs.Accounts.{row_ok}
 use Rattle.round.proofs.Blank.{blank}
 use Rattle.round.proofs.sound.are_ok.Goals as goal
 
-pub returns-then-not-is-ok : goal.returns-then-not-is-ok
-returns-then-not-is-ok c =
+pub returns-then-not-is_ok : goal.returns-then-not-is_ok
+returns-then-not-is_ok c =
     let l : c.loop-row.row-index < length c.args.rows.now = search rules in
-    sym (each_fails row_ok c.args.rows.now c.loop-row.row-index blank l (sym c.is-ok.ensures ∙ c.if-not-is-ok.true) c.loop-row.invariant)
+    sym (each_fails row_ok c.args.rows.now c.loop-row.row-index blank l (sym c.is_ok.ensures ∙ c.if-not-is_ok.true) c.loop-row.invariant)
 
 pub loop-row-preserved : goal.loop-row-preserved
 loop-row-preserved c =
     let l : c.loop-row.row-index < length c.args.rows.now = search rules in
-    each_more row_ok c.args.rows.now c.loop-row.row-index blank l (sym c.is-ok.ensures ∙ c.if-not-is-ok.false) c.loop-row.invariant
+    each_more row_ok c.args.rows.now c.loop-row.row-index blank l (sym c.is_ok.ensures ∙ c.if-not-is_ok.false) c.loop-row.invariant
 
 pub returns : goal.returns
 returns c =

@@ -7,8 +7,8 @@ use Rattle.round.proofs.Blank.{blank}
 use Rattle.round.proofs.Grouping.{kept_step}
 use Rattle.round.proofs.taking.collect.Goals as goal
 
-pub lots-of-requires : goal.lots-of-requires
-lots-of-requires c = each_at row_ok c.args.rows.now c.loop-row.row-index blank c.requires.ok (search rules)
+pub lots_of-requires : goal.lots_of-requires
+lots_of-requires c = each_at row_ok c.args.rows.now c.loop-row.row-index blank c.requires.ok (search rules)
 
 pub loop-row-preserved : goal.loop-row-preserved
 loop-row-preserved c =
@@ -18,8 +18,8 @@ loop-row-preserved c =
     let group = group_lots (is_final c.args.kind) c.args.class c.args.day in
     let rest = lots_by_place (is_final c.args.kind) c.args.class c.args.day (drop (i + 1) rows) in
     let front = take c.loop-row.count c.loop-row.lots in (
-      kept_step front (take c.push-count.result c.push-count.new.lots) c.lots-of.result rest c.push-count.ensures.lots
-          ∙ ap (λ q. front ++ filter (λ x. ltb 0 x) (q ∷ rest)) c.lots-of.ensures.lots
+      kept_step front (take c.push-count.result c.push-count.new.lots) c.lots_of.result rest c.push-count.ensures.lots
+          ∙ ap (λ q. front ++ filter (λ x. ltb 0 x) (q ∷ rest)) c.lots_of.ensures.lots
           ∙ ap (λ zs. front ++ zs) (sym (at_drop_more group rows i blank l))
           ∙ c.loop-row.invariant.0,
       omega (arith, c.push-count.ensures.few, c.loop-row.invariant.1),

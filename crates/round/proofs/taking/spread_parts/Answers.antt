@@ -7,8 +7,8 @@ use Rattle.round.specs.Taking.{spread}
 use Rattle.round.proofs.Blank.{blank}
 use Rattle.round.proofs.taking.spread_parts.Goals as goal
 
-pub lots-of-requires : goal.lots-of-requires
-lots-of-requires c = each_at row_ok c.args.rows.now c.loop-i.i blank c.requires.ok (search rules)
+pub lots_of-requires : goal.lots_of-requires
+lots_of-requires c = each_at row_ok c.args.rows.now c.loop-i.i blank c.requires.ok (search rules)
 
 pub loop-i-preserved : goal.loop-i-preserved
 loop-i-preserved c =
@@ -19,15 +19,15 @@ loop-i-preserved c =
     let k : i < length c.loop-i.places = search rules in
     let lots = lots_by_place (is_final c.args.kind) c.args.class c.args.day in
     let front = take i c.loop-i.places in
-    let given = c.next-part-part.result.0 in
-    let left = spread (lots (drop (i + 1) rows)) (drop c.next-part-part.result.1 parts) in (
+    let given = c.next_part-part.result.0 in
+    let left = spread (lots (drop (i + 1) rows)) (drop c.next_part-part.result.1 parts) in (
       ap (λ zs. zs ++ left) (take_more_set c.loop-i.places i given k)
           ∙ append_assoc front (given ∷ []) left
-          ∙ ap (λ zs. front ++ zs) (sym (c.next-part-part.ensures.part (lots (drop (i + 1) rows))))
-          ∙ ap (λ q. front ++ spread (q ∷ lots (drop (i + 1) rows)) (drop c.loop-i.used parts)) c.lots-of.ensures.lots
+          ∙ ap (λ zs. front ++ zs) (sym (c.next_part-part.ensures.part (lots (drop (i + 1) rows))))
+          ∙ ap (λ q. front ++ spread (q ∷ lots (drop (i + 1) rows)) (drop c.loop-i.used parts)) c.lots_of.ensures.lots
           ∙ ap (λ zs. front ++ zs) (sym (at_drop_more (λ rs. spread (lots rs) (drop c.loop-i.used parts)) rows i blank l))
           ∙ c.loop-i.invariant.0,
-      c.next-part-part.ensures.within,
+      c.next_part-part.ensures.within,
     )
 
 pub returns : goal.returns
