@@ -15,7 +15,7 @@ pub trait Calendar {
 
 // The first business day after a day and up to a limit; `None` exactly if there is none.
 pub fn next_business_day<C: Calendar>(calendar: &C, day: u32, limit: u32) -> Option<u32>
-    ensures { NextWithin (C.Calendar.business calendar.now) day limit result }
+    ensures { NextWithin (C.business calendar.now) day limit result }
 {
     let last = limit.min(100_000);
     if day >= last {

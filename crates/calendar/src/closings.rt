@@ -85,7 +85,7 @@ impl<C: Calendar> Closings<C> {
 }
 
 impl<C: Calendar> Calendar for Closings<C> {
-    ghost business = { λ c. without (take c.named.count c.named.days) (C.Calendar.business c.below) };
+    ghost business = { λ c. without (take c.named.count c.named.days) (C.business c.below) };
 
     ghost bounded = { first_of (Prim.search rules, Prim.grind (arith, Self.row.coded.inj)) };
 

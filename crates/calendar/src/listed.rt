@@ -12,7 +12,7 @@ pub struct Listed<L> {
 }
 
 impl<L: DayList> Calendar for Listed<L> {
-    ghost business = { λ c. listed (L.DayList.days c.days) };
+    ghost business = { λ c. listed (L.days c.days) };
 
     ghost bounded = { Prim.search rules };
 

@@ -46,9 +46,9 @@ pub struct ByPriority<P> {
 }
 
 impl<P: Priority> OddLots for ByPriority<P> {
-    ghost share = { λ rule. by_priority (P.Priority.rank rule.priority) };
+    ghost share = { λ rule. by_priority (P.rank rule.priority) };
 
-    ghost meaning = { λ rule. priority_keeps (P.Priority.rank rule.priority) (P.Priority.whole rule.priority) (P.Priority.broken rule.priority) };
+    ghost meaning = { λ rule. priority_keeps (P.rank rule.priority) (P.whole rule.priority) (P.broken rule.priority) };
 
     fn split(&self, lots: &[u32], n: u32, parts: &mut [u32]) -> Result<(), Refusal> {
         if !can_split(lots, n, parts.len()) {
@@ -62,7 +62,7 @@ impl<P: Priority> OddLots for ByPriority<P> {
 // Writes the parts by a priority.
 fn fill<P: Priority>(priority: &P, lots: &[u32], n: u32, parts: &mut [u32])
     requires { can_split lots.now n (length parts.old) ≡ true }
-    ensures { parts.new ≡ by_priority (P.Priority.rank priority.now) lots.now n }
+    ensures { parts.new ≡ by_priority (P.rank priority.now) lots.now n }
 {
     let sharing = Sharing::among(lots, n, parts.len());
     let left = n as u64 - rounded_shares(lots, sharing);
@@ -86,7 +86,7 @@ fn rounded_shares(lots: &[u32], sharing: Sharing) -> u64
 // The part of the entry at place i: its share rounded down, and one lot more if fewer entries stand ahead of it than lots are left.
 fn part<P: Priority>(priority: &P, lots: &[u32], sharing: Sharing, left: u64, i: usize) -> u32
     requires { (i < length lots.now) × ((slice_index lots.now i ≤ 100000) × (length lots.now ≤ 256)) }
-    ensures { result ≡ rounded sharing.n sharing.total (slice_index lots.now i) + first_by (standing (P.Priority.rank priority.now) sharing.n sharing.total) left lots.now i }
+    ensures { result ≡ rounded sharing.n sharing.total (slice_index lots.now i) + first_by (standing (P.rank priority.now) sharing.n sharing.total) left lots.now i }
 {
     let share = sharing.rounded(lots[i] as u64) as u32;
     if (count_ahead(priority, lots, sharing, i) as u64) < left {
@@ -99,7 +99,7 @@ fn part<P: Priority>(priority: &P, lots: &[u32], sharing: Sharing, left: u64, i:
 // How many entries stand ahead of the one at place i.
 fn count_ahead<P: Priority>(priority: &P, lots: &[u32], sharing: Sharing, i: usize) -> usize
     requires { (i < length lots.now) × (length lots.now ≤ 256) }
-    ensures { result ≡ ahead (standing (P.Priority.rank priority.now) sharing.n sharing.total) lots.now i }
+    ensures { result ≡ ahead (standing (P.rank priority.now) sharing.n sharing.total) lots.now i }
 {
     let own = standing(priority, lots[i], sharing);
     count_from(priority, &lots[..i], sharing, own)
@@ -108,7 +108,7 @@ fn count_ahead<P: Priority>(priority: &P, lots: &[u32], sharing: Sharing, i: usi
 
 // How many entries have at least a priority.
 fn count_from<P: Priority>(priority: &P, lots: &[u32], sharing: Sharing, least: u64) -> usize
-    ensures count { result ≡ count_by (λ q. leb least (standing (P.Priority.rank priority.now) sharing.n sharing.total q)) lots.now }
+    ensures count { result ≡ count_by (λ q. leb least (standing (P.rank priority.now) sharing.n sharing.total q)) lots.now }
     ensures few { result ≤ length lots.now }
 {
     let mut count = 0;
@@ -122,14 +122,14 @@ fn count_from<P: Priority>(priority: &P, lots: &[u32], sharing: Sharing, least: 
 
 // Whether an entry has at least a priority.
 fn reaches<P: Priority>(priority: &P, lots: u32, sharing: Sharing, least: u64) -> bool
-    ensures { result ≡ nat_le least (standing (P.Priority.rank priority.now) sharing.n sharing.total lots) }
+    ensures { result ≡ nat_le least (standing (P.rank priority.now) sharing.n sharing.total lots) }
 {
     least <= standing(priority, lots, sharing)
 }
 
 // The priority of an entry.
 fn standing<P: Priority>(priority: &P, lots: u32, sharing: Sharing) -> u64
-    ensures rank { result ≡ standing (P.Priority.rank priority.now) sharing.n sharing.total lots }
+    ensures rank { result ≡ standing (P.rank priority.now) sharing.n sharing.total lots }
     ensures small { result < 2 ^ 32 }
 {
     priority.rank_of(lots, sharing.remainder(lots)) as u64

@@ -107,7 +107,7 @@ pub(crate) trait Letter: Sized {
 
 // The letter and the fields of a record: 1, 2 or 3 where it is none of the kind.
 pub(crate) fn read_by<L: Letter + Drop>(bytes: &[u8]) -> Result<(L, Fields), Refusal>
-    ensures answer { answered result ≡ reading named laid bytes.now }
+    ensures answer { answered result ≡ reading L.named L.laid bytes.now }
     ensures back { IfOk result (λ p. laid_out p.1 ≡ bytes.now) }
 {
     let Some(fields) = fields_of(bytes) else {

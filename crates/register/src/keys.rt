@@ -27,7 +27,7 @@ impl Key for u32 {
 
 // Whether each key of a list comes before the next.
 pub fn is_rising<K: Key>(keys: &[K]) -> bool
-    ensures { result ≡ climbs K.Key.before keys.now }
+    ensures { result ≡ climbs K.before keys.now }
 {
     for i in 1..keys.len() {
         if !rises_to(keys, i) {
@@ -40,7 +40,7 @@ pub fn is_rising<K: Key>(keys: &[K]) -> bool
 // Whether the key at a place comes after the one that stands before it.
 fn rises_to<K: Key>(keys: &[K], i: usize) -> bool
     requires { (0 < i) × (i < length keys.now) }
-    ensures { (d : K) → result ≡ K.Key.before (slice_index_or keys.now (i - 1) d) (slice_index_or keys.now i d) }
+    ensures { (d : K) → result ≡ K.before (slice_index_or keys.now (i - 1) d) (slice_index_or keys.now i d) }
 {
     keys[i - 1].precedes(&keys[i])
 }

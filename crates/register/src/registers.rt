@@ -19,7 +19,7 @@ pub struct Register<K: Key, const N: usize> {
 impl<K: Key, const N: usize> Register<K, N> {
     // A register of 1 to N keys; `None` exactly if there are none, or more than N, or they do not rise.
     pub fn new(keys: &[K]) -> Option<Register<K, N>>
-        ensures { option_map (λ x. take x.count x.keys) result ≡ then_some (registrable K.Key.before N keys.now) keys.now }
+        ensures { option_map (λ x. take x.count x.keys) result ≡ then_some (registrable K.before N keys.now) keys.now }
     {
         if !is_registrable::<K, N>(keys) {
             return None;
@@ -41,8 +41,8 @@ impl<K: Key, const N: usize> Register<K, N> {
 
     // The place of a key, or `None` where the register has no such key. Its keys rise, as `new` says.
     pub fn place(&self, key: &K) -> Option<usize>
-        ensures place { climbs K.Key.before (take self.now.count self.now.keys) ≡ true → result ≡ place_of K.Key.before (take self.now.count self.now.keys) key.now }
-        ensures meaning { climbs K.Key.before (take self.now.count self.now.keys) ≡ true → Placed (take self.now.count self.now.keys) key.now result }
+        ensures place { climbs K.before (take self.now.count self.now.keys) ≡ true → result ≡ place_of K.before (take self.now.count self.now.keys) key.now }
+        ensures meaning { climbs K.before (take self.now.count self.now.keys) ≡ true → Placed (take self.now.count self.now.keys) key.now result }
     {
         place_in(self.keys(), key)
     }
@@ -50,7 +50,7 @@ impl<K: Key, const N: usize> Register<K, N> {
 
 // Whether a register of up to N keys can be made from a list.
 fn is_registrable<K: Key, const N: usize>(keys: &[K]) -> bool
-    ensures { result ≡ registrable K.Key.before N keys.now }
+    ensures { result ≡ registrable K.before N keys.now }
 {
     keys.len() != 0 && keys.len() <= N && is_rising(keys)
 }
@@ -78,8 +78,8 @@ fn key_at<K: Key>(keys: &[K], i: usize) -> K
 
 // The place of a key in a list of rising keys.
 fn place_in<K: Key>(keys: &[K], key: &K) -> Option<usize>
-    ensures place { climbs K.Key.before keys.now ≡ true → result ≡ place_of K.Key.before keys.now key.now }
-    ensures meaning { climbs K.Key.before keys.now ≡ true → Placed keys.now key.now result }
+    ensures place { climbs K.before keys.now ≡ true → result ≡ place_of K.before keys.now key.now }
+    ensures meaning { climbs K.before keys.now ≡ true → Placed keys.now key.now result }
 {
     let at = count_before(keys, key);
     found_at(keys, key, at)
@@ -87,7 +87,7 @@ fn place_in<K: Key>(keys: &[K], key: &K) -> Option<usize>
 
 // A place of a list; `None` if it is past the end, or the key there comes after a key.
 fn found_at<K: Key>(keys: &[K], key: &K, at: usize) -> Option<usize>
-    ensures { result ≡ (if nat_lt at (length keys.now) && not (K.Key.before key.now (slice_index_or keys.now at key.now)) then Some at else None) }
+    ensures { result ≡ (if nat_lt at (length keys.now) && not (K.before key.now (slice_index_or keys.now at key.now)) then Some at else None) }
 {
     if at >= keys.len() {
         return None;
@@ -101,7 +101,7 @@ fn found_at<K: Key>(keys: &[K], key: &K, at: usize) -> Option<usize>
 // Whether the key at a place of a list comes before a key.
 fn is_below<K: Key>(keys: &[K], at: usize, key: &K) -> bool
     requires { at < length keys.now }
-    ensures { result ≡ K.Key.before (slice_index_or keys.now at key.now) key.now }
+    ensures { result ≡ K.before (slice_index_or keys.now at key.now) key.now }
 {
     keys[at].precedes(key)
 }
@@ -109,8 +109,8 @@ fn is_below<K: Key>(keys: &[K], at: usize, key: &K) -> bool
 // How many keys of a rising list come before a key, found by halves.
 fn count_before<K: Key>(keys: &[K], key: &K) -> usize
     ensures within { result ≤ length keys.now }
-    ensures below { climbs K.Key.before keys.now ≡ true → (i : ℕ) → i < result → K.Key.before (slice_index_or keys.now i key.now) key.now ≡ true }
-    ensures above { climbs K.Key.before keys.now ≡ true → (i : ℕ) → result ≤ i → i < length keys.now → K.Key.before (slice_index_or keys.now i key.now) key.now ≡ false }
+    ensures below { climbs K.before keys.now ≡ true → (i : ℕ) → i < result → K.before (slice_index_or keys.now i key.now) key.now ≡ true }
+    ensures above { climbs K.before keys.now ≡ true → (i : ℕ) → result ≤ i → i < length keys.now → K.before (slice_index_or keys.now i key.now) key.now ≡ false }
 {
     let mut low = 0;
     let mut high = keys.len();

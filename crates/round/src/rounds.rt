@@ -23,7 +23,7 @@ use terms::refusals::Refusal;
 // The taking that a step is for.
 fn taking_for<R: OddLots>(step: Step, rule: &R, rows: &[AccountRow], line: Line) -> Taking
     requires { sound_rows rows.now ≡ true }
-    ensures { TakingFor step (R.OddLots.share rule.now) rows.now line result }
+    ensures { TakingFor step (R.share rule.now) rows.now line result }
 {
     match step {
         Step::Close => whole(),
@@ -60,7 +60,7 @@ pub fn count_rows<R: OddLots>(
     rows: &[AccountRow],
     line: Line,
 ) -> Result<usize, Refusal>
-    ensures { answered result ≡ count_answer step (R.OddLots.share rule.now) rows.now line }
+    ensures { answered result ≡ count_answer step (R.share rule.now) rows.now line }
 {
     if !are_sound(rows) {
         return Err(Refusal::ForeignArea);
@@ -78,8 +78,8 @@ pub fn write_rows<R: OddLots>(
     line: Line,
     area: &mut [[u8; 64]],
 ) -> Result<usize, Refusal>
-    ensures answer { answered result ≡ write_answer step (R.OddLots.share rule.now) rows.now line (length area.old) }
-    ensures area { area.new ≡ area_after step (R.OddLots.share rule.now) rows.now line area.old }
+    ensures answer { answered result ≡ write_answer step (R.share rule.now) rows.now line (length area.old) }
+    ensures area { area.new ≡ area_after step (R.share rule.now) rows.now line area.old }
 {
     if !are_sound(rows) {
         return Err(Refusal::ForeignArea);

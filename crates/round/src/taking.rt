@@ -52,7 +52,7 @@ fn collect(rows: &[AccountRow], kind: Kind, class: Class, day: u32, lots: &mut [
 // Shares a number out among lots; where there are none there is nothing to share.
 fn share_lots<R: OddLots>(rule: &R, lots: &[u32], n: u32, parts: &mut [u32])
     requires { 0 < length lots.now → can_split lots.now n (length parts.old) ≡ true }
-    ensures { parts.new ≡ (if nat_eq (length lots.now) 0 then parts.old else R.OddLots.share rule.now lots.now n) }
+    ensures { parts.new ≡ (if nat_eq (length lots.now) 0 then parts.old else R.share rule.now lots.now n) }
 {
     if lots.len() == 0 {
         return;
@@ -109,7 +109,7 @@ fn deal<R: OddLots>(
     requires few { length rows.now ≤ 256 }
     requires enough { stop.lots ≤ sum (lots_by_place (is_final kind) (class_at (is_final kind) stop.turn) stop.day rows.now) }
     requires room { (length lots.old ≡ 256) × (length parts.old ≡ 256) }
-    ensures { take (length rows.now) lots.new ≡ places_of (R.OddLots.share rule.now) (is_final kind) stop rows.now }
+    ensures { take (length rows.now) lots.new ≡ places_of (R.share rule.now) (is_final kind) stop rows.now }
 {
     let class = class_at(kind, stop.turn);
     let count = collect(rows, kind, class, stop.day, lots);
@@ -122,7 +122,7 @@ fn share_out<R: OddLots>(rule: &R, rows: &[AccountRow], kind: Kind, stop: Stop) 
     requires ok { each row_ok rows.now ≡ true }
     requires few { length rows.now ≤ 256 }
     requires enough { stop.lots ≤ sum (lots_by_place (is_final kind) (class_at (is_final kind) stop.turn) stop.day rows.now) }
-    ensures { take (length rows.now) result ≡ places_of (R.OddLots.share rule.now) (is_final kind) stop rows.now }
+    ensures { take (length rows.now) result ≡ places_of (R.share rule.now) (is_final kind) stop rows.now }
 {
     let mut lots = zeros();
     let mut parts = zeros();
@@ -133,7 +133,7 @@ fn share_out<R: OddLots>(rule: &R, rows: &[AccountRow], kind: Kind, stop: Stop) 
 // What a round takes from each row.
 pub(crate) fn taking_of<R: OddLots>(rule: &R, rows: &[AccountRow], line: Line) -> Taking
     requires { sound_rows rows.now ≡ true }
-    ensures { TakesChosen (R.OddLots.share rule.now) rows.now line result }
+    ensures { TakesChosen (R.share rule.now) rows.now line result }
 {
     let stop = find_stop(rows, line, to_deliver(rows));
     Taking {
