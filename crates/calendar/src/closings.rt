@@ -87,7 +87,7 @@ impl<C: Calendar> Closings<C> {
 impl<C: Calendar> Calendar for Closings<C> {
     ghost business = { λ c. without (take c.named.count c.named.days) (C.business c.below) };
 
-    ghost bounded = { first_of (Prim.search rules, Prim.grind (arith, Self.row.coded.inj)) };
+    ghost bounded = { Prim.search rules };
 
     fn is_business_day(&self, day: u32) -> bool {
         !self.named.names(day) && self.below.is_business_day(day)

@@ -6,7 +6,9 @@ use crate::ranges::{Factor, Interest, Lots, Price, Ratio};
 
 // A quotient rounded to the nearest number, halves up.
 pub(crate) fn half_up(dividend: u64, divisor: u64) -> u64
-    requires { (1 ≤ divisor) × ((divisor < 2 ^ 32) × (dividend < 2 ^ 62)) }
+    requires some { 1 ≤ divisor }
+    requires divisor_fits { divisor < 2 ^ 32 }
+    requires dividend_fits { dividend < 2 ^ 62 }
     ensures { result ≡ half_up dividend divisor }
 {
     (2 * dividend + divisor) / (2 * divisor)

@@ -25,7 +25,8 @@ impl<const LOW: u32, const HIGH: u32> Within<LOW, HIGH> {
 
     // A number that is known to be in range.
     pub(crate) fn exactly(value: u32) -> Within<LOW, HIGH>
-        requires { (LOW ≤ value) × (value ≤ HIGH) }
+        requires low { LOW ≤ value }
+        requires high { value ≤ HIGH }
         ensures { result.value ≡ value }
     {
         Within { value }

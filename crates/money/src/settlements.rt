@@ -124,7 +124,10 @@ fn done(cost: u64) -> Settlement
 
 // The seller failed.
 fn failed_seller(cost: u64, difference: u64, sum: u64, share: u64) -> Settlement
-    requires { (cost ≤ 10 ^ 16) × ((difference ≤ 10 ^ 16) × ((sum ≤ 10 ^ 16) × (share ≤ sum))) }
+    requires cost_fits { cost ≤ 10 ^ 16 }
+    requires difference_fits { difference ≤ 10 ^ 16 }
+    requires sum_fits { sum ≤ 10 ^ 16 }
+    requires share_within { share ≤ sum }
     ensures amounts { result ≡ seller_failed cost difference sum share }
     ensures balanced { Balanced result }
 {
@@ -142,7 +145,10 @@ fn failed_seller(cost: u64, difference: u64, sum: u64, share: u64) -> Settlement
 
 // The buyer failed.
 fn failed_buyer(cost: u64, difference: u64, sum: u64, share: u64) -> Settlement
-    requires { (cost ≤ 10 ^ 16) × ((difference ≤ 10 ^ 16) × ((sum ≤ 10 ^ 16) × (share ≤ sum))) }
+    requires cost_fits { cost ≤ 10 ^ 16 }
+    requires difference_fits { difference ≤ 10 ^ 16 }
+    requires sum_fits { sum ≤ 10 ^ 16 }
+    requires share_within { share ≤ sum }
     ensures amounts { result ≡ buyer_failed cost difference sum share }
     ensures balanced { Balanced result }
 {
@@ -160,7 +166,8 @@ fn failed_buyer(cost: u64, difference: u64, sum: u64, share: u64) -> Settlement
 
 // Both failed.
 fn failed_both(cost: u64, sum: u64) -> Settlement
-    requires { (cost ≤ 10 ^ 16) × (sum ≤ 10 ^ 16) }
+    requires cost_fits { cost ≤ 10 ^ 16 }
+    requires sum_fits { sum ≤ 10 ^ 16 }
     ensures amounts { result ≡ both_failed cost sum }
     ensures balanced { Balanced result }
 {

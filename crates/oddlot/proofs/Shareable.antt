@@ -1,13 +1,13 @@
 -- What a rule answers is what it has to answer. Assumes nothing.
 use Rattle.std.proofs.Common.{◌≡◌, ℕ, ◌<◌, ◌≤◌, true, not, ◌&&◌, eqb, leb, List, [], ◌∷◌, length, get_or, sum, mul-le-mul_right, arith}
-use Rattle.std.specs.List.{AllByRecursion as All}
+use Rattle.std.specs.List.{AllByRecursion}
 use Rattle.std.proofs.ByRecursion.{All-weaker, All-get_or, sum_by_le}
 use Rattle.std.proofs.lemmas.Bool.{and_parts, leb-true, eqb-true, eqb-false, not-true}
 use Rattle.terms.specs.Codes.{each, between}
 use Rattle.terms.specs.OddLots.{Shareable}
 use Rattle.oddlot.specs.Sharing.{can_split}
 
-all_from_each : (xs : List ℕ) → each (between 1 100000) xs ≡ true → All (λ q. (1 ≤ q) × (q ≤ 100000)) xs
+all_from_each : (xs : List ℕ) → each (between 1 100000) xs ≡ true → AllByRecursion (λ q. (1 ≤ q) × (q ≤ 100000)) xs
 all_from_each [] h = tt
 all_from_each (x ∷ xs) h =
     let p = and_parts (between 1 100000 x) (each (between 1 100000) xs) h in

@@ -1,7 +1,7 @@
 -- A rule by a priority keeps the meaning of an odd-lot rule. Assumes nothing.
-use Rattle.std.specs.Prelude.{◌≡◌, ℕ, ◌+◌, ◌-◌, ◌*◌, ◌/◌, ◌%◌, ◌<◌, ◌≤◌, cond, nat_lt, List, [], ◌∷◌, length, sum_by, sum, count_by, nat_lt, slice_index, slice_index_or}
+use Rattle.std.specs.Prelude.{◌≡◌, ℕ, ◌+◌, ◌-◌, ◌*◌, ◌/◌, ◌%◌, ◌<◌, ◌≤◌, cond, nat_lt, List, [], ◌∷◌, length, sum_by, sum, count_by, slice_index, slice_index_or}
 use Rattle.std.proofs.Common.{ap, ◌∙◌, inl, inr, add-mul, mul_comm, zero-mul, le_of_mul-le-mul_right, div-add-mod', arith}
-use Rattle.std.specs.List.{AllByRecursion as All}
+use Rattle.std.specs.List.{AllByRecursion}
 use Rattle.std.proofs.lemmas.Nat.{le-div, mod_below}
 use Rattle.std.proofs.lemmas.List.FromFn.{length-map-range_with_len, get_or-map-range_with_len}
 use Rattle.std.proofs.lemmas.List.Sums.{sum_by-cons, count_by-le-length}
@@ -23,7 +23,7 @@ whole n t (q ∷ qs) =
 
 module _ (rank : ℕ → ℕ → ℕ) (broken : (lots remainder : ℕ) → 1 ≤ lots → 1 ≤ remainder → 1 ≤ rank lots remainder) where
   -- what rounding leaves is less than t for each entry with a priority, and nothing for the others
-  leaves : (n t : ℕ) → 0 < t → (lots : List ℕ) → All (λ q. (1 ≤ q) × (q ≤ 100000)) lots →
+  leaves : (n t : ℕ) → 0 < t → (lots : List ℕ) → AllByRecursion (λ q. (1 ≤ q) × (q ≤ 100000)) lots →
       sum_by (λ q. q * n % t) lots ≤ count_by (λ q. nat_lt 0 (standing rank n t q)) lots * t
   leaves n t p [] h = omega (arith, zero-mul t)
   leaves n t p (q ∷ qs) h =

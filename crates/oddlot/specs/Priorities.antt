@@ -1,5 +1,5 @@
 -- The first entries of a list by a priority, and the rules that give one lot more to them. Assumes nothing.
-use Rattle.std.specs.Prelude.{◌≡◌, ℕ, ◌+◌, ◌-◌, ◌*◌, ◌/◌, ◌%◌, ◌≤◌, cond, nat_lt, List, map, length, take, drop, sum_by, sum, count_by, nat_le, nat_lt, slice_index}
+use Rattle.std.specs.Prelude.{◌≡◌, ℕ, ◌+◌, ◌-◌, ◌*◌, ◌/◌, ◌%◌, ◌≤◌, cond, nat_lt, List, map, length, take, drop, sum_by, sum, count_by, nat_le, slice_index}
 use Rattle.std.specs.List.{range_with_len}
 use Rattle.terms.specs.OddLots.{OddLotRule}
 

@@ -1,5 +1,5 @@
 // Rules that round every share down and give the lots left over by a priority.
-ghost use Rattle.std.specs.Prelude.{◌≡◌, ℕ, ◌+◌, ◌-◌, ◌^◌, ◌<◌, ◌≤◌, true, leb, length, sum_by, sum, count_by, nat_le, slice_index};
+ghost use Rattle.std.specs.Prelude.{◌≡◌, ℕ, ◌+◌, ◌-◌, ◌^◌, ◌<◌, ◌≤◌, true, length, sum_by, sum, count_by, nat_le, slice_index};
 ghost use Rattle.oddlot.specs.Priorities.{ahead, first_by, by_priority, largest_remainder, rounded, standing};
 ghost use Rattle.oddlot.specs.Sharing.{can_split};
 ghost use Rattle.std.proofs.Common.{rules};
@@ -85,7 +85,9 @@ fn rounded_shares(lots: &[u32], sharing: Sharing) -> u64
 
 // The part of the entry at place i: its share rounded down, and one lot more if fewer entries stand ahead of it than lots are left.
 fn part<P: Priority>(priority: &P, lots: &[u32], sharing: Sharing, left: u64, i: usize) -> u32
-    requires { (i < length lots.now) × ((slice_index lots.now i ≤ 100000) × (length lots.now ≤ 256)) }
+    requires there { i < length lots.now }
+    requires size { slice_index lots.now i ≤ 100000 }
+    requires few { length lots.now ≤ 256 }
     ensures { result ≡ rounded sharing.n sharing.total (slice_index lots.now i) + first_by (standing (P.rank priority.now) sharing.n sharing.total) left lots.now i }
 {
     let share = sharing.rounded(lots[i] as u64) as u32;
@@ -98,7 +100,8 @@ fn part<P: Priority>(priority: &P, lots: &[u32], sharing: Sharing, left: u64, i:
 
 // How many entries stand ahead of the one at place i.
 fn count_ahead<P: Priority>(priority: &P, lots: &[u32], sharing: Sharing, i: usize) -> usize
-    requires { (i < length lots.now) × (length lots.now ≤ 256) }
+    requires there { i < length lots.now }
+    requires few { length lots.now ≤ 256 }
     ensures { result ≡ ahead (standing (P.rank priority.now) sharing.n sharing.total) lots.now i }
 {
     let own = standing(priority, lots[i], sharing);
@@ -108,7 +111,7 @@ fn count_ahead<P: Priority>(priority: &P, lots: &[u32], sharing: Sharing, i: usi
 
 // How many entries have at least a priority.
 fn count_from<P: Priority>(priority: &P, lots: &[u32], sharing: Sharing, least: u64) -> usize
-    ensures count { result ≡ count_by (λ q. leb least (standing (P.rank priority.now) sharing.n sharing.total q)) lots.now }
+    ensures count { result ≡ count_by (λ q. nat_le least (standing (P.rank priority.now) sharing.n sharing.total q)) lots.now }
     ensures few { result ≤ length lots.now }
 {
     let mut count = 0;

@@ -38,7 +38,8 @@ impl Sharing {
 
     // The share of what lies between two totals, each rounded down.
     pub(crate) fn between(&self, before: u64, after: u64) -> u32
-        requires { (before ≤ after) × (after ≤ self.now.total) }
+        requires ordered { before ≤ after }
+        requires within { after ≤ self.now.total }
         ensures { result ≡ after * self.now.n / self.now.total - before * self.now.n / self.now.total }
     {
         (self.rounded(after) - self.rounded(before)) as u32
@@ -54,7 +55,9 @@ impl Sharing {
 
 // Lots times n over a total, rounded down.
 fn quotient(lots: u64, n: u64, total: u64) -> u64
-    requires { (lots < 2 ^ 32) × ((n < 2 ^ 32) × (1 ≤ total)) }
+    requires lots_fit { lots < 2 ^ 32 }
+    requires n_fits { n < 2 ^ 32 }
+    requires some { 1 ≤ total }
     ensures { result ≡ lots * n / total }
 {
     lots * n / total

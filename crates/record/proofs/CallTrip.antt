@@ -1,11 +1,10 @@
 -- Calls and their records undo each other. Assumes nothing.
-use Rattle.std.proofs.Common.{◌≡◌, ℕ, true, cond, not, eqb, List, length, drop, replicate, Some, sym, refl, ap, ◌∙◌, subst, arith}
-use Rattle.std.specs.List.{AllByRecursion as All}
+use Rattle.std.proofs.Common.{◌≡◌, ℕ, cond, not, eqb, List, length, drop, replicate, Some, sym, refl, ap, ◌∙◌, subst, arith}
+use Rattle.std.specs.List.{AllByRecursion}
 use Rattle.std.proofs.lemmas.List.{drop_all}
 use Rattle.std.proofs.lemmas.Bool.{cond-true, eq-eqb}
 use Rattle.terms.specs.Answers.{refused, granted}
 use Rattle.terms.specs.Codes.{each, used}
-use Rattle.terms.specs.declared.calls.BondLots.{BondLots}
 use Rattle.terms.specs.declared.calls.Call.{Call}
 use Rattle.terms.specs.declared.calls.Call.TheVariants.{Trade, DeclarePurchase, DeclareSale, Withdraw, OpenTrial, KeepTrial, DropTrial, Preview, Draw, LegResult, NextDay}
 use Rattle.record.specs.Calls.{call_letters, call_letter, call_layout, call_from, call_answer, call_fields, read_call}
@@ -49,7 +48,7 @@ call_kept bs letter f r =
     let clear = clear_parts (call_layout letter) f r.clear in
     let byte = letter_byte call_byte call_letters (refl, (refl, (refl, (refl, (refl, (refl, (refl, (refl, (refl, (refl, tt)))))))))) f.letter letter r.called in
     let long : length f.entries ≡ 4 = ap (λ g. length g.entries) r.same in
-    let wide = subst (λ g. All Code g.entries) (sym r.same) (codes bs r.long) in
+    let wide = subst (λ g. AllByRecursion Code g.entries) (sym r.same) (codes bs r.long) in
     known letter f (sym byte) clear
     (λ e. ap (λ n. replicate n no_entry) (sym long) ∙ unused_all f.entries wide (sym (ap (each (λ x. not (used x))) e) ∙ clear.entries))
 

@@ -1,6 +1,6 @@
 -- Fields that are not named are zero, as equations. Assumes nothing.
-use Rattle.std.proofs.Common.{◌≡◌, ℕ, ◌+◌, ◌≤◌, min, Bool, true, false, cond, not, ◌&&◌, ◌||◌, eqb, List, [], ◌∷◌, length, drop, replicate, Some, None, sym, refl, ap, ◌∙◌, inl, inr, arith, length-drop, length-take}
-use Rattle.std.specs.List.{AllByRecursion as All}
+use Rattle.std.proofs.Common.{◌≡◌, ℕ, ◌+◌, ◌≤◌, Bool, true, false, not, ◌&&◌, ◌||◌, eqb, List, [], ◌∷◌, length, drop, replicate, Some, sym, refl, ap, ◌∙◌, inl, inr, arith, length-drop, length-take}
+use Rattle.std.specs.List.{AllByRecursion}
 use Rattle.std.proofs.lemmas.Bool.{cases_Bool, cond-true, cond-false, eqb-true, and_parts, or_parts, not-true, not-false}
 use Rattle.terms.specs.Codes.{each, used}
 use Rattle.terms.specs.declared.calls.BondLots.{BondLots}
@@ -11,7 +11,7 @@ use Rattle.record.specs.declared.fields.Fields.{Fields}
 use Rattle.record.specs.declared.tables.Layout.{Layout}
 
 -- the byte of a letter, if the table gives each letter its byte
-pub letter_byte : {L : Type 0} (byte : L → ℕ) (table : List (ℕ × L)) → All (λ p. byte p.1 ≡ p.0) table → (b : ℕ) (letter : L) →
+pub letter_byte : {L : Type 0} (byte : L → ℕ) (table : List (ℕ × L)) → AllByRecursion (λ p. byte p.1 ≡ p.0) table → (b : ℕ) (letter : L) →
     lettered_by table b ≡ Some letter → b ≡ byte letter
 letter_byte byte [] h b letter e = let z : ◌≡◌ {A = ℕ} 0 1 = cc e in absurd (omega arith)
 letter_byte byte (p ∷ ps) h b letter e =
@@ -75,7 +75,7 @@ unused_entry e w h =
     let code = ap (λ n. replicate n 0) (sym w) ∙ zeros e.bond.bytes (not-false (each (λ b. eqb b 0) e.bond.bytes) p.1) in
     λ i. record { bond = record { bytes = code i }; lots = sym lots i }
 
-pub unused_all : (es : List BondLots) → All Code es → each (λ e. not (used e)) es ≡ true → replicate (length es) no_entry ≡ es
+pub unused_all : (es : List BondLots) → AllByRecursion Code es → each (λ e. not (used e)) es ≡ true → replicate (length es) no_entry ≡ es
 unused_all [] w h = refl
 unused_all (e ∷ es) w h =
     let p = and_parts (not (used e)) (each (λ x. not (used x)) es) h in
@@ -84,7 +84,7 @@ unused_all (e ∷ es) w h =
     λ i. first i ∷ rest i
 
 -- the codes of a record have eight bytes
-pub codes : (bs : List ℕ) → length bs ≡ 64 → All Code (fields bs).entries
+pub codes : (bs : List ℕ) → length bs ≡ 64 → AllByRecursion Code (fields bs).entries
 codes bs l = (eight 16 (omega arith), (eight 28 (omega arith), (eight 40 (omega arith), (eight 52 (omega arith), tt))))
   where
     eight : (at : ℕ) → at + 8 ≤ 64 → length (part at 8 bs) ≡ 8

@@ -1,6 +1,6 @@
 -- Parts of a record. Assumes nothing.
 use Rattle.std.proofs.Common.{◌≡◌, ℕ, suc, ◌+◌, ◌-◌, ◌*◌, ◌/◌, ◌%◌, ◌<◌, ◌≤◌, List, [], ◌∷◌, ◌++◌, length, get_or, take, drop, sym, refl, ap, ◌∙◌, arith, length-drop, take-append-drop, length-take, drop-drop, take-add}
-use Rattle.std.specs.List.{AllByRecursion as All}
+use Rattle.std.specs.List.{AllByRecursion}
 use Rattle.std.proofs.ByRecursion.{All-from_get_or, All-take, All-drop}
 use Rattle.std.proofs.lemmas.List.{drop_more, drop_all, take_rest}
 use Rattle.record.specs.Bytes.{value, bytes_of, part}
@@ -47,7 +47,7 @@ whole bs l =
     ∙ first_two bs (omega arith)
 
 -- the bytes of the number that bytes give are those bytes
-bytes_value : (bs : List ℕ) → All (λ b. b < 256) bs → bytes_of (length bs) (value bs) ≡ bs
+bytes_value : (bs : List ℕ) → AllByRecursion (λ b. b < 256) bs → bytes_of (length bs) (value bs) ≡ bs
 bytes_value [] h = refl
 bytes_value (b ∷ bs) h =
     let low : (b + 256 * value bs) % 256 ≡ b = omega (arith, h.0) in

@@ -1,7 +1,7 @@
 -- What is known of a record that is read, or refused. Assumes nothing.
-use Rattle.std.proofs.Common.{◌≡◌, ℕ, Bool, true, false, cond, eqb, List, length, Some, None, Option, sym, refl, ap, ◌∙◌, inl, inr, arith}
+use Rattle.std.proofs.Common.{◌≡◌, ℕ, true, cond, eqb, List, length, Some, None, Option, sym, ap, ◌∙◌, inl, inr, arith}
 use Rattle.std.proofs.lemmas.Bool.{cases_Bool, cond-true, cond-false, eqb-true}
-use Rattle.terms.specs.Answers.{Answer, refused, granted}
+use Rattle.terms.specs.Answers.{refused, granted}
 use Rattle.record.specs.Fields.{fields}
 use Rattle.record.specs.Layouts.{unnamed_zero, lettered, reading}
 use Rattle.record.specs.declared.fields.Fields.{Fields}

@@ -1,6 +1,6 @@
 -- Rows and their records undo each other. Assumes nothing.
-use Rattle.std.proofs.Common.{◌≡◌, ℕ, true, false, cond, not, ◌||◌, eqb, List, [], ◌∷◌, length, get_or, drop, replicate, IfOk, Some, None, Ok, Err, Result, sym, refl, ap, ◌∙◌, subst, inl, inr, arith, length-drop}
-use Rattle.std.specs.List.{AllByRecursion as All}
+use Rattle.std.proofs.Common.{◌≡◌, ℕ, true, cond, not, ◌||◌, eqb, List, [], ◌∷◌, length, get_or, drop, replicate, IfOk, Some, None, Ok, Err, Result, sym, refl, ap, ◌∙◌, subst, inl, inr, arith, length-drop}
+use Rattle.std.specs.List.{AllByRecursion}
 use Rattle.std.proofs.ByRecursion.{All-get_or, All-drop}
 use Rattle.std.proofs.lemmas.List.{drop_more}
 use Rattle.std.proofs.lemmas.Bool.{cases_Bool, cond-true, cond-false, eq-eqb, eqb-true}
@@ -8,13 +8,13 @@ use Rattle.terms.specs.Answers.{Answer, refused, granted, answered}
 use Rattle.terms.specs.Codes.{each, used}
 use Rattle.terms.specs.declared.calls.BondLots.{BondLots}
 use Rattle.terms.specs.declared.refusals.Refusal.{Refusal}
-use Rattle.terms.specs.Selection.{letter as class-letter}
+use Rattle.terms.specs.Selection.{letter as class_letter}
 use Rattle.terms.specs.declared.rows.Class.{Class}
 use Rattle.terms.specs.declared.rows.Class.TheVariants.{Declared, Undeclared, Virtual}
 use Rattle.terms.specs.declared.rows.Row.{Row}
 use Rattle.terms.specs.declared.rows.Row.TheVariants.{ClassLots, Leg, Refused}
 use Rattle.record.specs.Fields.{fields, laid_out}
-use Rattle.record.specs.Layouts.{lettered, no_entry, no_entries, field_values}
+use Rattle.record.specs.Layouts.{lettered, no_entry, no_entries}
 use Rattle.record.specs.Rows.{row_letters, row_letter, row_layout, class_row, entry_one, leg_from, row_from, row_with, row_answer, row_fields, row_bytes, row_lots, read_row}
 use Rattle.record.specs.declared.fields.Fields.{Fields}
 use Rattle.record.specs.declared.letters.RowLetter.{RowLetter}
@@ -34,22 +34,22 @@ record Known (letter : RowLetter) (f : Fields) : Type 0 where
   byte : row_byte letter ≡ f.letter
   clear : Clear (row_layout letter) f
   long : length f.entries ≡ 4
-  wide : All Code f.entries
+  wide : AllByRecursion Code f.entries
 
 known_from : (bs : List ℕ) (letter : RowLetter) (f : Fields) → Read row_letter row_layout bs letter f → Known letter f
 known_from bs letter f r = record {
   byte = sym (letter_byte row_byte row_letters (refl, (refl, (refl, (refl, (refl, tt))))) f.letter letter r.called);
   clear = clear_parts (row_layout letter) f r.clear;
   long = ap (λ g. length g.entries) r.same;
-  wide = subst (λ g. All Code g.entries) (sym r.same) (codes bs r.long);
+  wide = subst (λ g. AllByRecursion Code g.entries) (sym r.same) (codes bs r.long);
 }
 
 -- no entry is used
-none_used : (f : Fields) → length f.entries ≡ 4 → All Code f.entries → each (λ e. not (used e)) f.entries ≡ true → no_entries ≡ f.entries
+none_used : (f : Fields) → length f.entries ≡ 4 → AllByRecursion Code f.entries → each (λ e. not (used e)) f.entries ≡ true → no_entries ≡ f.entries
 none_used f l w h = ap (λ n. replicate n no_entry) (sym l) ∙ unused_all f.entries w h
 
 -- an entry, then none
-one_entry : (es : List BondLots) → length es ≡ 4 → All Code es → each (λ e. not (used e)) (drop 1 es) ≡ true →
+one_entry : (es : List BondLots) → length es ≡ 4 → AllByRecursion Code es → each (λ e. not (used e)) (drop 1 es) ≡ true →
     (get_or es 0 (record { bond = record { bytes = [] }; lots = 0 }) ∷ no_entry ∷ no_entry ∷ no_entry ∷ [] ≡ es)
     × Code (get_or es 0 (record { bond = record { bytes = [] }; lots = 0 }))
 one_entry es l w h =
@@ -88,7 +88,7 @@ leg_kept f row k e =
     ]
 
 -- lots of a class
-class_kept : (letter : RowLetter) (class : Class) (f : Fields) (row : Row) → Known letter f → class-letter class ≡ row_byte letter →
+class_kept : (letter : RowLetter) (class : Class) (f : Fields) (row : Row) → Known letter f → class_letter class ≡ row_byte letter →
     row_layout letter ≡ row_layout by.Declared → granted row ≡ granted (class_row class f) → row_fields row ≡ f
 class_kept letter class f row k b l e =
     let r : row ≡ class_row class f = cc e in

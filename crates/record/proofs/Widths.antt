@@ -1,7 +1,7 @@
 -- A record that is put together has the fields that it was made of. Assumes nothing.
 use Rattle.std.proofs.Common.{◌≡◌, ℕ, ◌+◌, ◌<◌, List, [], ◌∷◌, ◌++◌, length, get_or, take, drop, sym, refl, ap, ◌∙◌, append_assoc, arith, length-append, take_at, drop_at}
 use lib.Seq.{drop-append-add}
-use Rattle.std.specs.List.{flat_map, AllByRecursion as All}
+use Rattle.std.specs.List.{flat_map, AllByRecursion}
 use Rattle.std.proofs.lemmas.List.{flat_map_more, take_more}
 use Rattle.terms.specs.declared.calls.BondLots.{BondLots}
 use Rattle.record.specs.Bytes.{value, bytes_of, part}
@@ -42,7 +42,7 @@ entries_back a b c d ha hb hc hd t e =
     λ i. p₀ i ∷ p₁ i ∷ p₂ i ∷ p₃ i ∷ []
 
 -- the fields come back
-pub fields_back : (f : Fields) → HeadFits f → length f.entries ≡ 4 → All EntryFits f.entries → fields (laid_out f) ≡ f
+pub fields_back : (f : Fields) → HeadFits f → length f.entries ≡ 4 → AllByRecursion EntryFits f.entries → fields (laid_out f) ≡ f
 fields_back f h long all =
     let es = four f.entries long all in
     λ i. record {
@@ -55,7 +55,7 @@ fields_back f h long all =
       entries = es i;
     }
   where
-    four : (es : List BondLots) → length es ≡ 4 → All EntryFits es →
+    four : (es : List BondLots) → length es ≡ 4 → AllByRecursion EntryFits es →
         entry_at 0 (flat_map entry_bytes es) ∷ entry_at 12 (flat_map entry_bytes es) ∷ entry_at 24 (flat_map entry_bytes es) ∷ entry_at 36 (flat_map entry_bytes es) ∷ [] ≡ es
     four [] l a = absurd (omega arith)
     four (a ∷ []) l h = absurd (omega arith)

@@ -1,6 +1,6 @@
 // Putting a record together.
 ghost use Rattle.std.specs.Prelude.{◌≡◌, ◌+◌, ◌≤◌, ◌∷◌, ◌++◌, length, take};
-ghost use Rattle.std.specs.List.{flat_map, AllByRecursion as All};
+ghost use Rattle.std.specs.List.{flat_map, AllByRecursion};
 ghost use Rattle.record.specs.Bytes.{bytes_of};
 ghost use Rattle.record.specs.Fields.{entry_bytes, fields, head_bytes, laid_out};
 ghost use Rattle.record.specs.Widths.{EntryFits, HeadFits};
@@ -57,7 +57,7 @@ fn put_entries(out: &mut [u8], start: usize, entries: &[BondLots; 4]) -> usize
     ensures place { result ≡ start + 48 }
     ensures written { take result out.new ≡ take start out.old ++ flat_map entry_bytes entries.now }
     ensures four { length entries.now ≡ 4 }
-    ensures fits { All EntryFits entries.now }
+    ensures fits { AllByRecursion EntryFits entries.now }
 {
     let mut at = start;
     for e in entries {

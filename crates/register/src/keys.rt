@@ -39,7 +39,8 @@ pub fn is_rising<K: Key>(keys: &[K]) -> bool
 
 // Whether the key at a place comes after the one that stands before it.
 fn rises_to<K: Key>(keys: &[K], i: usize) -> bool
-    requires { (0 < i) × (i < length keys.now) }
+    requires not_first { 0 < i }
+    requires there { i < length keys.now }
     ensures { (d : K) → result ≡ K.before (slice_index_or keys.now (i - 1) d) (slice_index_or keys.now i d) }
 {
     keys[i - 1].precedes(&keys[i])

@@ -57,7 +57,8 @@ fn is_registrable<K: Key, const N: usize>(keys: &[K]) -> bool
 
 // A table that begins with the keys of a list.
 fn table_of<K: Key, const N: usize>(keys: &[K]) -> [K; N]
-    requires { (0 < length keys.now) × (length keys.now ≤ N) }
+    requires some { 0 < length keys.now }
+    requires few { length keys.now ≤ N }
     ensures long { length result ≡ N }
     ensures keys { take (length keys.now) result ≡ keys.now }
 {

@@ -1,6 +1,6 @@
 -- The legs of a round tell two lists of pairs as they should be. Assumes nothing.
 use Rattle.std.proofs.Common.{◌≡◌, ℕ, ◌+◌, ◌-◌, ◌≤◌, min, Bool, true, false, cond, ◌&&◌, eqb, ◌⊎◌, List, [], ◌∷◌, ◌++◌, map, length, Some, None, fold, sum_by, Option, sym, refl, ap, ◌∙◌, subst, inl, inr, arith}
-use Rattle.std.specs.List.{flat_map, AllByRecursion as All}
+use Rattle.std.specs.List.{flat_map, AllByRecursion}
 use Rattle.std.proofs.lemmas.List.Sums.{sum_by-cons}
 use Rattle.std.proofs.ByRecursion.{All-append}
 use Rattle.std.proofs.lemmas.Bool.{cases_lt, cases_Bool, eq-eqb, ne_eqb, false≢true, cond-true, cond-false, cond_both}
@@ -92,7 +92,7 @@ kind (Leg s b n bond) = bond_kind bond
 kind (Refused number) = 3
 
 abbrev Kind : ℕ → List Row → Type 0
-Kind k rows = All (λ (r : Row). kind r ≡ k) rows
+Kind k rows = AllByRecursion (λ (r : Row). kind r ≡ k) rows
 
 -- the first list takes the legs with a bond
 with_bond : (ps : List Pair) (rows : List Row) → Kind 1 rows → fold with_row ps rows ≡ fold with_any ps rows
@@ -151,7 +151,7 @@ failed_length (Leg s b n None ∷ rows) = omega (arith, failed_length rows)
 failed_length (Refused k ∷ rows) = omega (arith, failed_length rows)
 
 -- the kinds of the rows of a round
-all_listed : {A B : Type 0} (P : B → Type 0) (f : A → List B) (xs : List A) → ((x : A) → All P (f x)) → All P (flat_map f xs)
+all_listed : {A B : Type 0} (P : B → Type 0) (f : A → List B) (xs : List A) → ((x : A) → AllByRecursion P (f x)) → AllByRecursion P (flat_map f xs)
 all_listed P f [] h = tt
 all_listed P f (x ∷ xs) h = All-append P (f x) (flat_map f xs) (h x) (all_listed P f xs h)
 
@@ -173,16 +173,16 @@ piece_kind k p n (b ∷ bs) h =
     (cond_both (eqb (min n b.lots) 0) [] (Leg p.seller b.account (min n b.lots) p.bond ∷ []) (Kind k) (λ e. tt) (λ e. (h, tt)))
     (piece_kind k p (n - b.lots) bs h)
 
-legs_kind : (k : ℕ) (ps : List Piece) (bs : List Part) → All (λ (p : Piece). bond_kind p.bond ≡ k) ps → Kind k (legs ps bs)
+legs_kind : (k : ℕ) (ps : List Piece) (bs : List Part) → AllByRecursion (λ (p : Piece). bond_kind p.bond ≡ k) ps → Kind k (legs ps bs)
 legs_kind k [] bs h = tt
 legs_kind k (p ∷ ps) bs h =
     All-append (λ (r : Row). kind r ≡ k) (piece_legs p p.lots bs) (legs ps (behind p.lots bs)) (piece_kind k p p.lots bs h.0) (legs_kind k ps (behind p.lots bs) h.1)
 
-bonds_kind : (s n : ℕ) (bonds : List BondLots) → All (λ (p : Piece). bond_kind p.bond ≡ 1) (bond_pieces s n bonds)
+bonds_kind : (s n : ℕ) (bonds : List BondLots) → AllByRecursion (λ (p : Piece). bond_kind p.bond ≡ 1) (bond_pieces s n bonds)
 bonds_kind s n [] = tt
 bonds_kind s n (b ∷ bonds) = (refl, bonds_kind s (n - b.lots) bonds)
 
-failure_kind : (f : ℕ → ℕ) (xs : List ℕ) → All (λ (p : Piece). bond_kind p.bond ≡ 2) (map (λ a. piece a None (f a)) xs)
+failure_kind : (f : ℕ → ℕ) (xs : List ℕ) → AllByRecursion (λ (p : Piece). bond_kind p.bond ≡ 2) (map (λ a. piece a None (f a)) xs)
 failure_kind f [] = tt
 failure_kind f (x ∷ xs) = (refl, failure_kind f xs)
 

@@ -1,12 +1,12 @@
 -- The legs of a round: the pairs that they tell, and how many there are. Assumes nothing.
-use Rattle.std.proofs.Common.{◌≡◌, ℕ, ◌≤◌, true, false, cond, sum_by, sym, ◌∙◌, subst, inl, inr, arith}
+use Rattle.std.proofs.Common.{◌≡◌, ℕ, ◌≤◌, sum_by, sym, ◌∙◌, subst, inl, inr, arith}
 use Rattle.std.proofs.lemmas.Bool.{cases_Bool, cond-false}
 use Rattle.terms.specs.Lots.{lots_in, lots_of_day}
 use Rattle.terms.specs.Month.{Month, has, held, purchase_days}
 use Rattle.terms.specs.OddLots.{OddLotRule, KeepsMeaning}
-use Rattle.terms.specs.Selection.{Selection, taken_on, taken_from}
+use Rattle.terms.specs.Selection.{taken_on, taken_from}
 use Rattle.terms.specs.Pairs.{Paired}
-use Rattle.terms.specs.Rounds.{to_deliver, chosen, round_rows}
+use Rattle.terms.specs.Rounds.{chosen, round_rows}
 use Rattle.terms.specs.Facts.{Sound, SoundSides, RoundPairs, FewLegs}
 use Rattle.terms.specs.declared.rows.Class.TheVariants.{Declared, Undeclared, Virtual}
 use Rattle.terms.proofs.Sums.{sum_le, sum_same, sum_zero}
@@ -15,7 +15,7 @@ use Rattle.terms.proofs.Told.{told_round}
 use Rattle.terms.proofs.Deliveries.{round_paired}
 use Rattle.terms.proofs.LegCount.{few_legs_of}
 
-module _ (share : OddLotRule) (m : Month) (keeps : KeepsMeaning share) (sound : Sound m) (sides : SoundSides m) where
+module _ (share : OddLotRule) (m : Month) (keeps : KeepsMeaning share) (sound : Sound m) where
   -- no more lots are taken from an account than it holds
   taken_held : (a : ℕ) → taken_from m (chosen share m) a ≤ sum_by (held m a) (purchase_days m)
   taken_held a =
@@ -39,11 +39,11 @@ module _ (share : OddLotRule) (m : Month) (keeps : KeepsMeaning share) (sound : 
             omega (arith, taken_held a)
       ]
 
-  paired : Paired m (chosen share m) (round_rows share m)
-  paired = round_paired m (chosen share m) sound sides taken_within (chosen_keeps share m keeps sound).complete
+  paired : SoundSides m → Paired m (chosen share m) (round_rows share m)
+  paired sides = round_paired m (chosen share m) sound sides taken_within (chosen_keeps share m keeps sound).complete
 
 pub round_pairs : RoundPairs
 round_pairs share m keeps sound sides = subst (λ sel. Paired m sel (round_rows share m)) (sym (told_round share m keeps sound)) (paired share m keeps sound sides)
 
 pub few_legs : FewLegs
-few_legs share m keeps sound sides = few_legs_of m (chosen share m) sound sides (taken_within share m keeps sound sides)
+few_legs share m keeps sound sides = few_legs_of m (chosen share m) sound sides (taken_within share m keeps sound)

@@ -1,15 +1,15 @@
 -- A selection that keeps the five rules exists over every sound month. Assumes nothing.
 use Rattle.std.proofs.Common.{◌≡◌, ℕ, ◌+◌, ◌-◌, ◌*◌, ◌/◌, ◌<◌, ◌≤◌, true, cond, eqb, ltb, List, [], ◌∷◌, map, length, get_or, sum_by, sum, sym, refl, ap, ◌∙◌, subst, ap₂, inl, inr, mul-div_cancel, arith}
 use lib.ListN.{length-map}
-use Rattle.std.specs.List.{AllByRecursion as All}
+use Rattle.std.specs.List.{AllByRecursion}
 use Rattle.std.proofs.ByRecursion.{All-map}
 use Rattle.std.proofs.lemmas.List.Sums.{sum_by-cons, sum-map}
 use Rattle.std.proofs.lemmas.Bool.{cases_lt, cases_Bool, ltb-true, ltb-false, lt-ltb, cond-true, cond-false, cond_both}
 use Rattle.terms.specs.Lots.{Dated, lots_in, lots_of_day}
 use Rattle.terms.specs.Month.{Month, has, held, covered, final, lots_there, holders, purchase_days, effective_sale}
 use Rattle.terms.specs.OddLots.{OddLotRule, KeepsMeaning, Shareable, Shares}
-use Rattle.terms.specs.Selection.{Selection, FiveRules, taken_on, taken_from, taken_there}
-use Rattle.terms.specs.Rounds.{asked, group_size, class_size, to_deliver, wanted, amount, part_of, chosen}
+use Rattle.terms.specs.Selection.{FiveRules, taken_on, taken_from, taken_there}
+use Rattle.terms.specs.Rounds.{asked, group_size, class_size, to_deliver, wanted, amount, chosen}
 use Rattle.terms.specs.Facts.{Sound, SelectionExists}
 use Rattle.terms.specs.declared.rows.Class.{Class}
 use Rattle.terms.specs.declared.rows.Class.TheVariants.{Declared, Undeclared, Virtual}
@@ -18,7 +18,7 @@ use Rattle.terms.proofs.Rising.{sum_same_in, has_term, kept_has, kept_rising, ke
 use Rattle.terms.proofs.Alone.{there_le_held, there_known, there_day}
 use Rattle.terms.proofs.Fill.{fill_full, fill_all, fill_sum, part_le, part_ge, parts_map, ceil_le, sum_positive}
 
-all_from_has : (P : ℕ → Type 0) (xs : List ℕ) → ((x : ℕ) → has x xs ≡ true → P x) → All P xs
+all_from_has : (P : ℕ → Type 0) (xs : List ℕ) → ((x : ℕ) → has x xs ≡ true → P x) → AllByRecursion P xs
 all_from_has P [] h = tt
 all_from_has P (x ∷ xs) h = (h x (has_here x xs), all_from_has P xs (λ y i. h y (has_there y x xs i)))
 

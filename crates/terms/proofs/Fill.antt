@@ -1,6 +1,6 @@
 -- Lots taken from days, the oldest first, until a number is reached; and the parts of a list by account. Assumes nothing.
 use Rattle.std.proofs.Common.{◌≡◌, ℕ, suc, ◌+◌, ◌-◌, ◌*◌, ◌/◌, ◌<◌, ◌≤◌, min, true, cond, eqb, ltb, List, [], ◌∷◌, map, length, get_or, sum_by, sum, refl, ap, ◌∙◌, subst, ap₂, inl, inr, add-mul, mul-le-mul_left, arith}
-use Rattle.std.specs.List.{AllByRecursion as All}
+use Rattle.std.specs.List.{AllByRecursion}
 use Rattle.std.proofs.lemmas.Nat.{div_below}
 use Rattle.std.proofs.lemmas.List.Sums.{sum_by-cons}
 use Rattle.std.proofs.lemmas.Bool.{cases_lt, eqb-true, eqb-false, eq-eqb, ne_eqb, lt-ltb, le-ltb, false≢true, cond-true, cond-false, cond_both}
@@ -117,6 +117,6 @@ ceil_le q n t p l =
     let s : q * n + (t - 1) < (q + 1) * t = omega (arith, add-mul q 1 t) in
     omega (arith, div_below (q * n + (t - 1)) t (q + 1) p s)
 
-pub sum_positive : (qs : List ℕ) → All (λ q. (1 ≤ q) × (q ≤ 100000)) qs → 0 < length qs → 0 < sum qs
+pub sum_positive : (qs : List ℕ) → AllByRecursion (λ q. (1 ≤ q) × (q ≤ 100000)) qs → 0 < length qs → 0 < sum qs
 sum_positive [] h l = absurd (omega arith)
 sum_positive (q ∷ qs) h l = omega (arith, sum_by-cons (λ (x : ℕ). x) q qs, h.0)

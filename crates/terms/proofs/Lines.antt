@@ -1,6 +1,6 @@
 -- Two sides laid along a line: each overlap of a seller and a buyer is a pair, and such a list is a pairing. Assumes nothing.
 use Rattle.std.proofs.Common.{◌≡◌, ℕ, zero, suc, ◌+◌, ◌-◌, ◌<◌, ◌≤◌, min, true, cond, eqb, ltb, ◌⊎◌, List, [], ◌∷◌, length, sum_by, count_by, sym, refl, ap, ◌∙◌, subst, inl, inr, arith}
-use Rattle.std.specs.List.{AllByRecursion as All}
+use Rattle.std.specs.List.{AllByRecursion}
 use Rattle.std.proofs.lemmas.List.Sums.{sum_by-cons}
 use Rattle.std.proofs.lemmas.Bool.{cases_lt, cases_Bool, eq-eqb, ne_eqb, ltb-true, ltb-false, le-ltb, false≢true, cond-true, cond-false, cond_both}
 use Rattle.terms.specs.Month.{has}
@@ -10,7 +10,7 @@ use Rattle.terms.specs.Pairs.{Pair, pair, sold_in, bought_in, Pairing}
 use Rattle.terms.proofs.Sums.{has_here, has_there, has_cases}
 
 abbrev Positive : List Part → Type 0
-Positive ps = All (λ (p : Part). 0 < p.lots) ps
+Positive ps = AllByRecursion (λ (p : Part). 0 < p.lots) ps
 
 past_of : (a : ℕ) (p : Part) (n k : ℕ) (ps : List Part) → k ≡ min n p.lots → cond (eqb p.account a) k 0 + of_account a (past p n ps) ≡ of_account a (p ∷ ps)
 past_of a p n k ps e =

@@ -1,5 +1,5 @@
 -- Bond codes, and the entries of a seller's declaration. Assumes nothing.
-use Rattle.std.specs.Prelude.{ℕ, Bool, true, false, not, ◌&&◌, ◌||◌, List, [], ◌∷◌, ◌==◌, nat_eq, nat_le}
+use Rattle.std.specs.Prelude.{ℕ, Bool, true, not, ◌&&◌, ◌||◌, List, [], ◌∷◌, ◌==◌, nat_eq, nat_le}
 use Rattle.terms.specs.declared.calls.BondCode.{BondCode}
 use Rattle.terms.specs.declared.calls.BondLots.{BondLots}
 

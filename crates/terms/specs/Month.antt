@@ -1,5 +1,5 @@
 -- The plain month: who holds and has declared what on which day, and what of it counts in a round. Assumes nothing.
-use Rattle.std.specs.Prelude.{ℕ, ◌-◌, min, Bool, true, false, cond, not, ◌&&◌, ◌||◌, nat_lt, List, [], ◌∷◌, map, sum_by, filter, ◌==◌, nat_lt}
+use Rattle.std.specs.Prelude.{ℕ, ◌-◌, min, Bool, true, false, cond, not, ◌&&◌, ◌||◌, nat_lt, List, [], ◌∷◌, map, sum_by, filter, ◌==◌}
 use Rattle.terms.specs.Lots.{Dated, dated, Position, lots_in, lots_of_day, lots_before}
 use Rattle.terms.specs.declared.calls.BondLots.{BondLots}
 use Rattle.terms.specs.declared.rows.Class.{Class}

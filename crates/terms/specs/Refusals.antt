@@ -1,5 +1,5 @@
 -- The number of each refusal. Assumes nothing.
-use Rattle.std.specs.Prelude.{ℕ, Some, None, Option}
+use Rattle.std.specs.Prelude.{ℕ}
 use Rattle.terms.specs.declared.refusals.Refusal.{Refusal}
 use Rattle.terms.specs.declared.refusals.Refusal.TheVariants.{WrongLength, UnknownLetter, BadField, NotShareable, TooManyClosings, BadDays, BadAccounts, BadBonds, BadPositions, UnequalTotals, AreaTooSmall, ForeignArea, DayOver, UnknownAccount, SameAccount, LotsOutOfRange, TooManyLots, TooManyDates, JournalFull, OutsideWindow, BadBondEntries, AboveNetLots, NothingDeclared, TooManyTrials, NoTrial, TrialOpen, ResultMissing, RowAreaTooSmall, UnknownLeg, NotDeliveryDay, ResultGiven, BadResult, NotDrawn, ClosingDay, BadPreviewDay, OtherRows, BadPrices, LegUnsettled}
 

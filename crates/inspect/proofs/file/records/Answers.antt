@@ -1,7 +1,7 @@
-use Rattle.std.proofs.Common.{◌≡◌, ◌+◌, ◌*◌, ◌/◌, ◌<◌, [], ◌∷◌, ◌++◌, length, get_or, drop, vec_items, vec_len, sym, ap, ◌∙◌, subst, arith, length-drop, rules}
+use Rattle.std.proofs.Common.{◌≡◌, ◌+◌, ◌*◌, length, get_or, drop, vec_items, vec_len, sym, ap, ◌∙◌, arith, length-drop}
 use Rattle.std.proofs.lemmas.Bool.{eqb-true, eqb-false}
 use Rattle.inspect.specs.File.{told}
-use Rattle.inspect.proofs.Steps.{ToldTo, told_more}
+use Rattle.inspect.proofs.Steps.{told_more}
 use Rattle.inspect.proofs.file.records.Goals as goal
 
 pub loop-rest-smaller : goal.loop-rest-smaller

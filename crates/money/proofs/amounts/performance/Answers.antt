@@ -9,4 +9,4 @@ pub overflow_mul-value-2 : goal.overflow_mul-value-2
 overflow_mul-value-2 c = omega (arith, most c)
 
 pub half_up-requires : goal.half_up-requires
-half_up-requires c = (omega arith, (omega arith, omega (arith, most c)))
+half_up-requires c = record { some = omega arith; divisor_fits = omega arith; dividend_fits = omega (arith, most c) }

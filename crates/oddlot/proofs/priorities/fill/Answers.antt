@@ -20,7 +20,11 @@ pub part-requires : goal.part-requires
 part-requires g c =
     let lots = c.args.lots.now in
     let p = passed_from lots c.args.n (length c.args.parts.now) c.requires in
-    (c.loop-i-test.true, (entry_small lots c.args.n p.shareable c.loop-i.i c.loop-i-test.true, p.shareable.few))
+    record {
+      there = c.loop-i-test.true;
+      size = entry_small lots c.args.n p.shareable c.loop-i.i c.loop-i-test.true;
+      few = p.shareable.few;
+    }
 
 pub loop-i-preserved : goal.loop-i-preserved
 loop-i-preserved g c =

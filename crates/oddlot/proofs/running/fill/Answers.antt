@@ -8,7 +8,10 @@ pub overflow_add-after : goal.overflow_add-after
 overflow_add-after c = omega (arith, so_far c.args.lots.now c.loop-i.i c.loop-i-test.true, c.loop-i.invariant.0, c.among-sharing.ensures.total, c.among-sharing.result.fits)
 
 pub between-requires : goal.between-requires
-between-requires c = (omega arith, omega (arith, so_far c.args.lots.now c.loop-i.i c.loop-i-test.true, c.loop-i.invariant.0, c.among-sharing.ensures.total))
+between-requires c = record {
+  ordered = omega arith;
+  within = omega (arith, so_far c.args.lots.now c.loop-i.i c.loop-i-test.true, c.loop-i.invariant.0, c.among-sharing.ensures.total);
+}
 
 pub loop-i-preserved : goal.loop-i-preserved
 loop-i-preserved c =

@@ -1,5 +1,5 @@
-use Rattle.std.proofs.Common.{◌≡◌, ◌<◌, ◌≤◌, not, length, sym, ap, ◌∙◌, arith, rules}
-use Rattle.terms.specs.Codes.{each, used}
+use Rattle.std.proofs.Common.{◌<◌, ◌≤◌, not, length, sym, ap, ◌∙◌, rules}
+use Rattle.terms.specs.Codes.{used}
 use Rattle.terms.proofs.Each.{each_more, each_fails, each_all}
 use Rattle.record.proofs.layouts.unused_from.Goals as goal
 

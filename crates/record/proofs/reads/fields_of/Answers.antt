@@ -1,4 +1,4 @@
-use Rattle.std.proofs.Common.{◌≡◌, ◌≤◌, eqb, length, Some, None, sym, ap, ◌∙◌, arith, rules}
+use Rattle.std.proofs.Common.{◌≤◌, eqb, length, Some, None, sym, ap, ◌∙◌, arith, rules}
 use Rattle.std.proofs.lemmas.Bool.{cond-true, eqb-true}
 use Rattle.record.specs.Fields.{fields, laid_out}
 use Rattle.record.proofs.Parts.{taken_apart, laid_fields}

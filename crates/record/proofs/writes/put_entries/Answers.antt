@@ -1,6 +1,6 @@
-use Rattle.std.proofs.Common.{◌≡◌, ◌<◌, ◌≤◌, [], ◌++◌, length, take, sym, ap, ◌∙◌, append-nil, arith, take_all, rules}
+use Rattle.std.proofs.Common.{◌≡◌, ◌<◌, ◌++◌, length, take, ap, ◌∙◌, arith, take_all, rules}
 use Rattle.std.proofs.ByRecursion.{All-more}
-use Rattle.std.specs.List.{flat_map, AllByRecursion as All}
+use Rattle.std.specs.List.{flat_map}
 use Rattle.record.specs.Fields.{entry_bytes}
 use Rattle.record.specs.Widths.{EntryFits}
 use Rattle.record.proofs.Widths.{entry_more}

@@ -1,5 +1,5 @@
-use Rattle.std.proofs.Common.{◌≡◌, ◌+◌, ◌++◌, length, take, sym, refl, ap, ◌∙◌, append_assoc, arith, rules}
-use Rattle.record.specs.Bytes.{value, bytes_of}
+use Rattle.std.proofs.Common.{◌≡◌, ◌++◌, length, take, sym, ap, ◌∙◌, append_assoc, rules}
+use Rattle.record.specs.Bytes.{value}
 use Rattle.record.proofs.writes.put_entry.Goals as goal
 
 pub returns : goal.returns

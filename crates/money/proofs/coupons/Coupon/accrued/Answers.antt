@@ -5,7 +5,9 @@ use Rattle.money.proofs.Bounds.{accruing}
 use Rattle.money.proofs.coupons.Coupon.accrued.Goals as goal
 
 pub half_up-requires : goal.half_up-requires
-half_up-requires c = let k = accruing c.args.self.now in (omega arith, (omega arith, omega arith))
+half_up-requires c =
+    let k = accruing c.args.self.now in
+    record { some = omega arith; divisor_fits = omega arith; dividend_fits = omega arith }
 
 most : (c : goal.After-half_up) → c.half_up.result ≤ 2000000000
 most c =

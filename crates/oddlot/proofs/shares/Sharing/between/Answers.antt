@@ -5,4 +5,4 @@ use Rattle.oddlot.proofs.shares.Sharing.between.Goals as goal
 pub overflow_sub-result : goal.overflow_sub-result
 overflow_sub-result c =
     let s = c.args.self.now in
-    omega (arith, share_grows c.args.before c.args.after s.n s.total s.some c.requires.0, c.rounded.ensures.share, c.rounded-2.ensures.share)
+    omega (arith, share_grows c.args.before c.args.after s.n s.total s.some c.requires.ordered, c.rounded.ensures.share, c.rounded-2.ensures.share)
