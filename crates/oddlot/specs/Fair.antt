@@ -1,4 +1,5 @@
 -- A rule by a priority keeps the meaning of an odd-lot rule. Assumes nothing.
+-- Lemmas alone: a law cites them, which it may only where they stand in specs/, and no contract does.
 use Rattle.std.specs.Prelude.{◌≡◌, ℕ, ◌+◌, ◌-◌, ◌*◌, ◌/◌, ◌%◌, ◌<◌, ◌≤◌, cond, nat_lt, List, [], ◌∷◌, length, sum_by, sum, count_by, slice_index, slice_index_or}
 use Rattle.std.proofs.Common.{ap, ◌∙◌, inl, inr, add-mul, mul_comm, zero-mul, le_of_mul-le-mul_right, div-add-mod', arith}
 use Rattle.std.specs.List.{AllByRecursion}

@@ -1,4 +1,5 @@
 -- The first entries of a list by a priority: how many there are, and that an entry of no priority is none of them while others are left. Assumes nothing.
+-- Lemmas alone: a law cites them, which it may only where they stand in specs/, and no contract does.
 use Rattle.std.specs.Prelude.{◌≡◌, ℕ, suc, ◌+◌, ◌-◌, ◌<◌, ◌≤◌, Bool, true, cond, nat_lt, nat_le, List, [], ◌∷◌, length, take, drop, count_by, slice_index}
 use Rattle.std.proofs.Common.{sym, ap, ◌∙◌, inl, inr, arith}
 use Rattle.std.proofs.lemmas.List.Sums.{sum_by-cons, count_by-le-length}

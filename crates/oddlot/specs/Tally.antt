@@ -1,4 +1,5 @@
 -- Sums of a function over the places of a list, and counts of a list cut at a place. Assumes nothing.
+-- Lemmas alone: a law cites them, which it may only where they stand in specs/, and no contract does.
 use Rattle.std.specs.Prelude.{◌≡◌, ℕ, zero, suc, ◌+◌, ◌<◌, Bool, true, false, cond, List, [], ◌∷◌, map, length, take, drop, sum_by, sum, count_by, slice_index, refl}
 use Rattle.std.proofs.Common.{ap, ◌∙◌, add-one, arith}
 use Rattle.std.specs.List.{range_with_len}
