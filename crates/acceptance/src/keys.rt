@@ -5,9 +5,7 @@ use terms::calls::BondCode;
 
 #[test]
 fn accounts(rt: HostRuntime) -> Result<(), Fail> {
-    let Some(accounts) = Register::<u32, 8>::new(&[0, 10, 11, 20, 4_294_967_295]) else {
-        return Err(Fail::new("a rising list"));
-    };
+    let accounts = Register::<u32, 8>::new(&[0, 10, 11, 20, 4_294_967_295]).ok_or("a rising list")?;
     assert!(rt; accounts.place(&0) == Some(0));
     assert!(rt; accounts.place(&11) == Some(2));
     assert!(rt; accounts.place(&4_294_967_295) == Some(4));
@@ -28,10 +26,9 @@ fn code(first: u8, last: u8) -> BondCode {
 
 #[test]
 fn codes(rt: HostRuntime) -> Result<(), Fail> {
-    let Some(bonds) = Register::<BondCode, 64>::new(&[code(65, 200), code(66, 10), code(66, 11)])
-    else {
-        return Err(Fail::new("a rising list"));
-    };
+    let bonds = Register::<BondCode, 64>::new(&[code(65, 200), code(66, 10), code(66, 11)]).ok_or(
+        "a rising list",
+    )?;
     assert!(rt; bonds.place(&code(65, 200)) == Some(0));
     assert!(rt; bonds.place(&code(66, 11)) == Some(2));
     assert!(rt; bonds.place(&code(65, 10)) == None);

@@ -1,18 +1,11 @@
 // Records there and back, and each way in which bytes are no record.
+use crate::answers::number;
 use record::calls::{read_call, write_call};
 use record::rows::{read_row, write_row};
 use std::process::Abort;
 use std::test::Fail;
 use terms::calls::{BondCode, BondLots, Call};
-use terms::refusals::Refusal;
 use terms::rows::{Class, Row};
-
-fn number<T: Drop>(r: Result<T, Refusal>) -> u32 {
-    match r {
-        Ok(_) => 0,
-        Err(refusal) => refusal.number(),
-    }
-}
 
 fn bond(letter: u8, lots: u32) -> BondLots {
     BondLots {
@@ -30,13 +23,12 @@ fn sale() -> Call {
     }
 }
 
-// Written, it has the letter; read and written again, it is the same.
+// Written, it has the letter; read, it is the same, and so is what is written again.
 fn call_there_and_back(rt: &impl Abort, call: Call, letter: u8) -> Result<(), Fail> {
     let bytes = write_call(&call).ok_or("a call without a record")?;
     assert_eq!(rt; bytes[0], letter);
-    let Ok(read) = read_call(&bytes) else {
-        return Err(Fail::new("refused"));
-    };
+    let read = read_call(&bytes).ok().ok_or("refused")?;
+    assert!(rt; read == call);
     let again = write_call(&read).ok_or("a call without a record")?;
     assert!(rt; again == bytes);
     Ok(())
@@ -92,9 +84,8 @@ fn every_call(rt: HostRuntime) -> Result<(), Fail> {
 fn row_there_and_back(rt: &impl Abort, row: Row, letter: u8) -> Result<(), Fail> {
     let bytes = write_row(&row);
     assert_eq!(rt; bytes[0], letter);
-    let Ok(read) = read_row(&bytes) else {
-        return Err(Fail::new("refused"));
-    };
+    let read = read_row(&bytes).ok().ok_or("refused")?;
+    assert!(rt; read == row);
     assert!(rt; write_row(&read) == bytes);
     Ok(())
 }
@@ -143,13 +134,9 @@ fn places(rt: HostRuntime) -> Result<(), Fail> {
     expected[3] = 1;
     expected[4] = 10;
     expected[8] = 9;
-    for i in 16..24 {
-        expected[i] = 65;
-    }
+    expected[16..24].fill(65);
     expected[24] = 7;
-    for i in 28..36 {
-        expected[i] = 66;
-    }
+    expected[28..36].fill(66);
     expected[36] = 3;
     assert!(rt; bytes == expected);
     Ok(())
@@ -166,6 +153,7 @@ fn refused_calls(rt: HostRuntime) -> Result<(), Fail> {
         number(read_call(&write_row(&Row::Refused { number: 3 }))),
         2
     );
+    // each place in turn, in a copy of its own
     for i in 1..64 {
         let mut other = bytes;
         other[i] = 1;

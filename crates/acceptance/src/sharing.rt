@@ -1,15 +1,8 @@
 // Odd lots shared out, and what no rule answers.
+use crate::answers::number;
 use oddlot::house::HouseRule;
 use oddlot::rules::OddLots;
 use std::process::Abort;
-use terms::refusals::Refusal;
-
-fn number(r: Result<(), Refusal>) -> u32 {
-    match r {
-        Ok(_) => 0,
-        Err(refusal) => refusal.number(),
-    }
-}
 
 // The rule's answer for three entries.
 fn three(rt: &impl Abort, rule: HouseRule, lots: [u32; 3], n: u32, parts: [u32; 3]) {

@@ -1,13 +1,15 @@
 -- What a file of records tells. Assumes nothing.
-use Rattle.std.specs.Prelude.{◌≡◌, ℕ, ◌+◌, ◌*◌, ◌/◌, ◌<◌, cond, List, length, take, drop, ◌==◌, slice_index_or}
+use Rattle.std.specs.Prelude.{◌≡◌, ℕ, ◌+◌, ◌*◌, ◌/◌, ◌<◌, cond, List, length, take, drop, ◌==◌, slice_index_or, Result, Ok, Err}
 use Rattle.terms.specs.Answers.{Answer, refused, granted}
 use Rattle.terms.specs.Refusals.{number}
 use Rattle.terms.specs.declared.calls.Call.{Call}
 use Rattle.terms.specs.declared.rows.Row.{Row}
 use Rattle.record.specs.Calls.{read_call}
 use Rattle.record.specs.Rows.{read_row}
-use Rattle.inspect.specs.declared.seen.Seen.{Seen}
-use Rattle.inspect.specs.declared.seen.Seen.TheVariants as by
+use Rattle.inspect.specs.declared.found.Fault.{Fault}
+use Rattle.inspect.specs.declared.found.Fault.TheVariants.{Refused, Cut}
+use Rattle.inspect.specs.declared.found.Record.{Record}
+use Rattle.inspect.specs.declared.found.Record.TheVariants as by
 
 -- A call, a row, the number of a refusal, or how many bytes are left of a cut record.
 pub data Told : Type 0 where
@@ -17,11 +19,11 @@ pub data Told : Type 0 where
   cut : ℕ → Told
 
 -- What a value of the program tells.
-abbrev pub told : Seen → Told
-told (by.Call c) = a_call c
-told (by.Row r) = a_row r
-told (by.Refused e) = none (number e)
-told (by.Cut n) = cut n
+abbrev pub told : Result Record Fault → Told
+told (Ok (by.Call c)) = a_call c
+told (Ok (by.Row r)) = a_row r
+told (Err (Refused e)) = none (number e)
+told (Err (Cut n)) = cut n
 
 -- What 64 bytes are as a row.
 abbrev pub as_row : Answer Row → Told
@@ -38,6 +40,6 @@ abbrev pub tells : List ℕ → Told
 tells bs = cond (length bs == 64) (as_call (read_call bs) (read_row bs)) (cut (length bs))
 
 -- A file has a record for every 64 bytes, and one for what is left over: record k starts at byte 64 k.
-pub record FileTold (bs : List ℕ) (all : List Seen) : Type 0 where
+pub record FileTold (bs : List ℕ) (all : List (Result Record Fault)) : Type 0 where
   pub count : length all ≡ (length bs + 63) / 64
-  pub each_one : (k : ℕ) (d : Seen) → k < length all → told (slice_index_or all k d) ≡ tells (take 64 (drop (64 * k) bs))
+  pub each_one : (k : ℕ) (d : Result Record Fault) → k < length all → told (slice_index_or all k d) ≡ tells (take 64 (drop (64 * k) bs))

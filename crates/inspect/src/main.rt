@@ -2,18 +2,20 @@
 #![tactic(auto)]
 
 mod file;
-mod seen;
+mod found;
 
 use crate::file::records;
-use crate::seen::Seen;
 use std::io::Read;
 
 fn run(rt: &HostRuntime) -> anyhow::Result<()> {
     let mut bytes = Vec::new(rt.alloc());
     rt.stdin().read_to_end(&mut bytes)?;
     let all = records(rt.alloc(), bytes.as_slice())?;
-    for (place, seen) in all.iter().enumerate() {
-        println!(rt; "{place}: {seen}")?;
+    for (place, found) in all.iter().enumerate() {
+        match found {
+            Ok(record) => println!(rt; "{place}: {record}")?,
+            Err(fault) => println!(rt; "{place}: {fault}")?,
+        }
     }
     Ok(())
 }

@@ -1,6 +1,7 @@
 -- The number of each refusal. Assumes nothing.
-use Rattle.std.specs.Prelude.{ℕ}
+use Rattle.std.specs.Prelude.{◌≡◌, ℕ, ◌≢◌, Result, MatchResult}
 use Rattle.terms.specs.declared.refusals.Refusal.{Refusal}
+use Rattle.terms.specs.declared.refusals.UnknownNumber.{UnknownNumber}
 use Rattle.terms.specs.declared.refusals.Refusal.TheVariants.{WrongLength, UnknownLetter, BadField, NotShareable, TooManyClosings, BadDays, BadAccounts, BadBonds, BadPositions, UnequalTotals, AreaTooSmall, ForeignArea, DayOver, UnknownAccount, SameAccount, LotsOutOfRange, TooManyLots, TooManyDates, JournalFull, OutsideWindow, BadBondEntries, AboveNetLots, NothingDeclared, TooManyTrials, NoTrial, TrialOpen, ResultMissing, RowAreaTooSmall, UnknownLeg, NotDeliveryDay, ResultGiven, BadResult, NotDrawn, ClosingDay, BadPreviewDay, OtherRows, BadPrices, LegUnsettled}
 
 -- The number by which hosts know a refusal.
@@ -43,3 +44,7 @@ number BadPreviewDay = 51
 number OtherRows = 60
 number BadPrices = 61
 number LegUnsettled = 63
+
+-- A number read: the refusal that has it, or the number again, exactly if no refusal has it.
+abbrev pub Numbered : ℕ → Result Refusal UnknownNumber → Type 0
+Numbered n r = MatchResult r (λ x. number x ≡ n) (λ e. (e.0 ≡ n) × ((x : Refusal) → number x ≢ n))

@@ -1,34 +1,23 @@
 // The calls on an opened month.
 ghost use Rattle.std.specs.Prelude.{◌≡◌};
-ghost use Rattle.terms.specs.Codes.{each, between, visible, used};
+ghost use Rattle.std.specs.List.{list_all};
+ghost use Rattle.terms.specs.Codes.{between, visible, used};
 
 // An account's number; every 32-bit number is one.
 pub type Account = u32;
 
-// The code of a bond; any eight bytes are one.
-#[derive(Clone, Copy)]
+// The code of a bond; any eight bytes are one. Codes are compared from the first byte.
+#[derive(Clone, Copy, Debug, Default, PartialEq, Eq, PartialOrd, Ord)]
 pub struct BondCode {
     pub bytes: [u8; 8],
-}
-
-// Whether a byte lies between two others, both included.
-fn is_between(b: u8, low: u8, high: u8) -> bool
-    ensures { result ≡ between low high b }
-{
-    low <= b && b <= high
 }
 
 impl BondCode {
     // Whether every byte lies between two bytes, both included.
     pub fn lies_between(&self, low: u8, high: u8) -> bool
-        ensures { result ≡ each (between low high) self.now.bytes }
+        ensures { result ≡ list_all (between low high) self.now.bytes }
     {
-        for b in self.bytes {
-            if !is_between(b, low, high) {
-                return false;
-            }
-        }
-        true
+        self.bytes.iter().all(|b| (low..=high).contains(b))
     }
 
     // Whether every byte is a visible ASCII character.
@@ -39,8 +28,8 @@ impl BondCode {
     }
 }
 
-// Lots of one bond in a seller's declaration; an unused entry is all zero.
-#[derive(Clone, Copy)]
+// Lots of one bond in a seller's declaration; an unused entry is all zero, as hosts lend it, and no `None`.
+#[derive(Clone, Copy, Debug, Default, PartialEq, Eq)]
 pub struct BondLots {
     pub bond: BondCode,
     pub lots: u32,
@@ -56,7 +45,7 @@ impl BondLots {
 }
 
 // What can be asked of an opened month.
-#[derive(Clone, Copy)]
+#[derive(Clone, Copy, Debug, PartialEq, Eq)]
 pub enum Call {
     Trade {
         buyer: Account,
@@ -87,7 +76,7 @@ pub enum Call {
         day: u32,
     },
     Draw,
-    // what became of a leg; mark 0 is done, 1 the seller failed, 2 the buyer, 3 both
+    // what became of a leg; mark 0 is done, 1 the seller failed, 2 the buyer, 3 both. Any byte is read: the call judges it, and refuses others
     LegResult {
         leg: u32,
         mark: u8,

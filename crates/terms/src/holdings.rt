@@ -1,14 +1,14 @@
 // The position rows of an opening.
 use crate::calls::Account;
 
-#[derive(Clone, Copy)]
+#[derive(Clone, Copy, Debug, PartialEq, Eq)]
 pub enum Side {
     Long,
     Short,
 }
 
-// Lots of an account on one side. A short row has day 0.
-#[derive(Clone, Copy)]
+// Lots of an account on one side, as hosts lend it: a short row has day 0, which the opening checks.
+#[derive(Clone, Copy, Debug, PartialEq, Eq)]
 pub struct Holding {
     pub account: Account,
     pub day: u32,

@@ -8,3 +8,4 @@ pub mod facts;
 pub mod holdings;
 pub mod refusals;
 pub mod rows;
+mod words;

@@ -2,7 +2,7 @@
 use crate::calls::{Account, BondCode};
 
 // The class of a long lot in a round.
-#[derive(Clone, Copy)]
+#[derive(Clone, Copy, Debug, PartialEq, Eq)]
 pub enum Class {
     // one of the lots that a buyer's declaration covers
     Declared,
@@ -12,7 +12,7 @@ pub enum Class {
     Virtual,
 }
 
-#[derive(Clone, Copy)]
+#[derive(Clone, Copy, Debug, PartialEq, Eq)]
 pub enum Row {
     // lots of an account, class and day of purchase; in a draw, those selected
     ClassLots {
@@ -28,7 +28,7 @@ pub enum Row {
         lots: u32,
         bond: Option<BondCode>,
     },
-    // a call was refused with this number
+    // a call was refused with this number; one that no refusal has reads back too
     Refused {
         number: u32,
     },

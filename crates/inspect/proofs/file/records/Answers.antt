@@ -7,7 +7,7 @@ use Rattle.inspect.proofs.file.records.Goals as goal
 pub loop-rest-smaller : goal.loop-rest-smaller
 loop-rest-smaller c =
     let some = eqb-false (length c.loop-rest.rest.now) 0 (sym c.is_empty.ensures ∙ c.loop-rest-test.true) in
-    omega (arith, some, ap length c.first-seen.ensures.next, length-drop 64 c.loop-rest.rest.now)
+    omega (arith, some, ap length c.first-found.ensures.next, length-drop 64 c.loop-rest.rest.now)
 
 pub loop-rest-preserved : goal.loop-rest-preserved
 loop-rest-preserved c =
@@ -19,8 +19,8 @@ loop-rest-preserved c =
     let long : vec_len all ≡ length (vec_items all) = omega (arith, all.ok.0) in
     let some = eqb-false (length rest) 0 (sym c.is_empty.ensures ∙ c.loop-rest-test.true) in
     let inv = c.loop-rest.invariant in
-    let more = told_more bytes rest c.first-seen.result.1.now (vec_items all) (vec_len all) c.first-seen.result.0 long inv.0
-    c.first-seen.ensures.seen c.first-seen.ensures.next inv.2 in (
+    let more = told_more bytes rest c.first-found.result.1.now (vec_items all) (vec_len all) c.first-found.result.0 long inv.0
+    c.first-found.ensures.found c.first-found.ensures.next inv.2 in (
       more.0 ∙ ap (λ n. drop (64 * n) bytes) (sym longer),
       omega (arith, longer, some, ap length inv.0, length-drop (64 * vec_len all) bytes),
       λ k d b. ap (λ xs. told (get_or xs k d)) pushed.items ∙ more.1 k d (omega (arith, longer)),

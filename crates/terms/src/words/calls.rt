@@ -1,22 +1,19 @@
 // Calls in words.
-use crate::Words;
+use crate::calls::{Account, BondCode, BondLots, Call};
 use std::fmt;
 use std::fmt::Write;
-use terms::calls::{BondCode, BondLots, Call};
 
 // Text where every byte is a visible ASCII character, else hex.
-impl fmt::Display for Words<BondCode> {
+impl fmt::Display for BondCode {
     fn fmt<W: fmt::Write>(&self, f: &mut fmt::Formatter<W>) -> fmt::Result {
-        let code = self.0;
-        if code.is_visible() {
-            for b in code.bytes {
-                let c = char::from(b);
-                write!(f, "{c}")?;
+        if self.is_visible() {
+            for b in self.bytes {
+                f.write_char(char::from(b))?;
             }
             return Ok(());
         }
-        write!(f, "0x")?;
-        for b in code.bytes {
+        f.write_str("0x")?;
+        for b in self.bytes {
             write!(f, "{b:02x}")?;
         }
         Ok(())
@@ -24,24 +21,12 @@ impl fmt::Display for Words<BondCode> {
 }
 
 // A dash for an unused entry.
-impl fmt::Display for Words<BondLots> {
+impl fmt::Display for BondLots {
     fn fmt<W: fmt::Write>(&self, f: &mut fmt::Formatter<W>) -> fmt::Result {
-        let entry = self.0;
-        if !entry.is_used() {
-            return write!(f, "-");
+        if !self.is_used() {
+            return f.write_str("-");
         }
-        let bond = Words(entry.bond);
-        let lots = entry.lots;
-        write!(f, "{bond} {lots}")
-    }
-}
-
-// The four entries of a sale declaration.
-impl fmt::Display for Words<[BondLots; 4]> {
-    fn fmt<W: fmt::Write>(&self, f: &mut fmt::Formatter<W>) -> fmt::Result {
-        let [a, b, c, d] = self.0;
-        let (a, b, c, d) = (Words(a), Words(b), Words(c), Words(d));
-        write!(f, "{a}, {b}, {c}, {d}")
+        write!(f, "{} {}", self.bond, self.lots)
     }
 }
 
@@ -50,7 +35,7 @@ fn write_declaration<W: fmt::Write>(
     f: &mut fmt::Formatter<W>,
     side: &str,
     minute: u16,
-    account: u32,
+    account: Account,
     lots: u32,
 ) -> fmt::Result {
     write!(
@@ -59,21 +44,9 @@ fn write_declaration<W: fmt::Write>(
     )
 }
 
-// A sale declaration, with its entries.
-fn write_sale<W: fmt::Write>(
-    f: &mut fmt::Formatter<W>,
-    minute: u16,
-    account: u32,
-    lots: u32,
-    bonds: Words<[BondLots; 4]>,
-) -> fmt::Result {
-    write_declaration(f, "sale", minute, account, lots)?;
-    write!(f, ", bonds {bonds}")
-}
-
-impl fmt::Display for Words<Call> {
+impl fmt::Display for Call {
     fn fmt<W: fmt::Write>(&self, f: &mut fmt::Formatter<W>) -> fmt::Result {
-        match self.0 {
+        match *self {
             Call::Trade {
                 buyer,
                 seller,
@@ -89,7 +62,11 @@ impl fmt::Display for Words<Call> {
                 account,
                 lots,
                 bonds,
-            } => write_sale(f, minute, account, lots, Words(bonds)),
+            } => {
+                let [a, b, c, d] = bonds;
+                write_declaration(f, "sale", minute, account, lots)?;
+                write!(f, ", bonds {a}, {b}, {c}, {d}")
+            }
             Call::Withdraw { minute, account } => write!(
                 f,
                 "withdrawal, minute {minute}, account {account}"

@@ -1,0 +1,3 @@
+// Calls and rows in words, for people.
+mod calls;
+mod rows;
