@@ -1,58 +1,42 @@
--- Lists that rise: how a loop tests one, and what holds at its places under a total order. Assumes nothing.
-use Rattle.std.proofs.Common.{◌≡◌, ℕ, zero, suc, ◌+◌, ◌-◌, ◌<◌, ◌≤◌, Bool, true, false, ◌&&◌, List, [], ◌∷◌, length, get_or, drop, sym, refl, ap, ◌∙◌, inl, inr, arith}
-use Rattle.std.proofs.lemmas.List.{drop_more, length-drop}
-use Rattle.std.proofs.lemmas.Bool.{cases_order, cases_Bool, and_parts, true≢false}
+-- Lists that rise: what a test of neighbours tells, and what holds at the places under a total order. Assumes nothing.
+use Rattle.std.proofs.Common.{◌≡◌, ℕ, zero, suc, ◌+◌, ◌<◌, Bool, true, false, ◌&&◌, List, [], ◌∷◌, length, get_or, sym, refl, ap, ◌∙◌, inl, inr, arith}
+use Rattle.std.proofs.lemmas.Bool.{cases_lt, and_parts, and_from}
+use Rattle.std.proofs.Math.Bool.{and-false}
+use Rattle.std.specs.List.{IsAllAdjacentAnswer}
+use Rattle.std.specs.List.Sorted.{IsPartitionedBy}
 use Rattle.register.specs.Orders.{TotalOrder, climbs_from, climbs}
-
--- a key of a list that has one
-pub first_of : {K : Type 0} (xs : List K) → 0 < length xs → K
-first_of [] l = absurd (omega arith)
-first_of (x ∷ xs) l = x
 
 module _ {K : Type 0} (before : K → K → Bool) where
   -- two keys are left
-  climbs_two : (xs : List K) (j : ℕ) (d : K) → j + 1 < length xs →
-      climbs before (drop j xs) ≡ (before (get_or xs j d) (get_or xs (j + 1) d) && climbs before (drop (j + 1) xs))
-  climbs_two xs j d h =
-      let h₁ : j < length xs = omega arith in
-      let e : drop (j + 1) xs ≡ get_or xs (j + 1) d ∷ drop (j + 1 + 1) xs = drop_more xs (j + 1) d h in
-      ap (climbs before) (drop_more xs j d h₁)
-      ∙ ap (λ l. climbs before (get_or xs j d ∷ l)) e
-      ∙ ap (λ l. before (get_or xs j d) (get_or xs (j + 1) d) && climbs before l) (sym e)
+  climbs_two : (k : K) (ks : List K) (d : K) → 0 < length ks → climbs before (k ∷ ks) ≡ (before k (get_or ks 0 d) && climbs before ks)
+  climbs_two k [] d h = absurd (omega arith)
+  climbs_two k (x ∷ xs) d h = refl
 
-  -- a loop's turn at i: what is left begins at the key before it
-  climbs_turn : {t : Bool} (xs : List K) (i : ℕ) → 1 ≤ i → i < length xs → ((d : K) → t ≡ before (get_or xs (i - 1) d) (get_or xs i d)) →
-      climbs before (drop (i - 1) xs) ≡ (t && climbs before (drop i xs))
-  climbs_turn {t} xs i h l told =
-      let d = first_of xs (omega arith) in
-      let up : i - 1 + 1 ≡ i = omega arith in
-      let m : i - 1 + 1 < length xs = omega arith in
-      climbs_two xs (i - 1) d m
-      ∙ ap (λ n. before (get_or xs (i - 1) d) (get_or xs n d) && climbs before (drop n xs)) up
-      ∙ ap (λ b. b && climbs before (drop i xs)) (sym (told d))
+  -- each key is before the next
+  climbs_if : (ks : List K) (d : K) → ((i : ℕ) → i + 1 < length ks → before (get_or ks i d) (get_or ks (i + 1) d) ≡ true) → climbs before ks ≡ true
+  climbs_if [] d h = refl
+  climbs_if (k ∷ []) d h = refl
+  climbs_if (k ∷ x ∷ xs) d h =
+      let next : (i : ℕ) → suc (i + 1) ≡ suc i + 1 = λ i. omega arith in
+      and_from (before k x) (climbs before (x ∷ xs)) (h 0 (omega arith))
+      (climbs_if (x ∷ xs) d (λ i l. ap (λ n. before (get_or (x ∷ xs) i d) (get_or (k ∷ x ∷ xs) n d)) (next i) ∙ h (suc i) (omega arith)))
 
-  -- the two keys rise
-  pub climbs_more : (xs : List K) (i : ℕ) → 1 ≤ i → i < length xs → ((d : K) → true ≡ before (get_or xs (i - 1) d) (get_or xs i d)) →
-      climbs before (drop (i - 1) xs) ≡ climbs before xs → climbs before (drop (i + 1 - 1) xs) ≡ climbs before xs
-  climbs_more xs i h l told inv =
-      let e : i + 1 - 1 ≡ i = omega arith in
-      ap (λ n. climbs before (drop n xs)) e ∙ sym (climbs_turn xs i h l told) ∙ inv
+  -- one is not
+  climbs_not : (ks : List K) (i : ℕ) (d : K) → i + 1 < length ks → before (get_or ks i d) (get_or ks (i + 1) d) ≡ false → climbs before ks ≡ false
+  climbs_not [] i d l h = absurd (omega arith)
+  climbs_not (k ∷ ks) zero d l h = climbs_two k ks d (omega arith) ∙ ap (λ b. b && climbs before ks) h
+  climbs_not (k ∷ ks) (suc i) d l h =
+      let next : suc (i + 1) ≡ suc i + 1 = omega arith in
+      let rest = climbs_not ks i d (omega arith) (ap (λ n. before (get_or ks i d) (get_or (k ∷ ks) n d)) next ∙ h) in
+      climbs_two k ks d (omega arith) ∙ ap (λ b. before k (get_or ks 0 d) && b) rest
+      ∙ and-false (before k (get_or ks 0 d))
 
-  -- they do not
-  pub climbs_fails : (xs : List K) (i : ℕ) → 1 ≤ i → i < length xs → ((d : K) → false ≡ before (get_or xs (i - 1) d) (get_or xs i d)) →
-      climbs before (drop (i - 1) xs) ≡ climbs before xs → false ≡ climbs before xs
-  climbs_fails xs i h l told inv = sym (climbs_turn xs i h l told) ∙ inv
-
-  climbs_short : (xs : List K) → length xs ≤ 1 → climbs before xs ≡ true
-  climbs_short [] h = refl
-  climbs_short (x ∷ []) h = refl
-  climbs_short (x ∷ y ∷ ys) h = absurd (omega arith)
-
-  -- no two are left
-  pub climbs_all : (xs : List K) (i : ℕ) → 1 ≤ i → length xs ≤ i → climbs before (drop (i - 1) xs) ≡ climbs before xs → true ≡ climbs before xs
-  climbs_all xs i h l inv =
-      let s : length (drop (i - 1) xs) ≤ 1 = omega (arith, length-drop (i - 1) xs) in
-      sym (climbs_short (drop (i - 1) xs) s) ∙ inv
+  -- what a test of all neighbours answers
+  pub climbs_told : (ks : List K) (r : Bool) → IsAllAdjacentAnswer (λ x y b. b ≡ before x y) ks r → r ≡ climbs before ks
+  climbs_told [] true h = refl
+  climbs_told (k ∷ ks) true h = sym (climbs_if (k ∷ ks) k (λ i l. sym (h i k l)))
+  climbs_told [] false h = absurd (omega (arith, h.1))
+  climbs_told (k ∷ ks) false h = sym (climbs_not (k ∷ ks) h.0 k h.1 (sym (h.2 k)))
 
 module _ {K : Type 0} (before : K → K → Bool) (order : TotalOrder before) where
   -- a key that is before the first of a rising list is before all
@@ -75,30 +59,10 @@ module _ {K : Type 0} (before : K → K → Bool) (order : TotalOrder before) wh
   rising_places (k ∷ ks) zero (suc j) d h l m = before_all k ks j d h (omega arith)
   rising_places (k ∷ ks) (suc i) (suc j) d h l m = rising_places ks i j d (climbs_rest k ks h) (omega arith) (omega arith)
 
-  -- the key at a place is before another key, and so are those below
-  pub below_too : (ks : List K) (key : K) (m : ℕ) → climbs before ks ≡ true → m < length ks → true ≡ before (get_or ks m key) key →
-      (i : ℕ) → i < m + 1 → before (get_or ks i key) key ≡ true
-  below_too ks key m h l t i b =
-      elim (cases_order i m) [
-        | inl e ↦ ap (λ n. before (get_or ks n key) key) e ∙ sym t
-        | inr o ↦ elim o [
-          | inl less ↦ order.transitive (get_or ks i key) (get_or ks m key) key (rising_places ks i m key h less l) (sym t)
-          | inr more ↦ absurd (omega arith)
-        ]
-      ]
-
-  -- the key at a place is not before another key, and neither are those above
-  pub above_too : (ks : List K) (key : K) (m : ℕ) → climbs before ks ≡ true → false ≡ before (get_or ks m key) key →
-      (i : ℕ) → m ≤ i → i < length ks → before (get_or ks i key) key ≡ false
-  above_too ks key m h f i a l =
-      elim (cases_order i m) [
-        | inl e ↦ ap (λ n. before (get_or ks n key) key) e ∙ sym f
-        | inr o ↦ elim o [
-          | inl less ↦ absurd (omega arith)
-          | inr more ↦ elim (cases_Bool (before (get_or ks i key) key)) [
-            | inl t ↦ absurd (true≢false
-                (sym (order.transitive (get_or ks m key) (get_or ks i key) key (rising_places ks m i key h more l) t) ∙ sym f))
-            | inr g ↦ g
-          ]
-        ]
+  -- the keys before another one stand first
+  pub rising_parted : (ks : List K) (key : K) → climbs before ks ≡ true → IsPartitionedBy (λ k. before k key) ks
+  rising_parted ks key h i j d le l t =
+      elim (cases_lt i j) [
+        | inl less ↦ order.transitive (get_or ks i d) (get_or ks j d) key (rising_places ks i j d h less l) t
+        | inr more ↦ let e : i ≡ j = omega arith in ap (λ n. before (get_or ks n d) key) e ∙ t
       ]

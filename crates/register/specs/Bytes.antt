@@ -1,9 +1,8 @@
--- The order of sequences of bytes is total, and how a loop compares two. Assumes nothing.
+-- The order of sequences of bytes is total. Assumes nothing.
 -- Lemmas alone: a law cites them, which it may only where they stand in specs/, and no contract does.
-use Rattle.std.specs.Prelude.{◌≡◌, ℕ, ◌+◌, ◌<◌, ◌≤◌, true, false, ◌⊎◌, List, [], ◌∷◌, length, drop, ◌==◌, ◌≢◌, nat_lt, slice_index, slice_index_or, refl}
-use Rattle.std.proofs.Common.{sym, ap, ap₂, ◌∙◌, inl, inr, arith}
-use Rattle.std.proofs.lemmas.List.{drop_more, drop_all}
-use Rattle.std.proofs.lemmas.Bool.{cases_order, cases_lt, eq-eqb, ne_eqb, lt-ltb, le-ltb, cond-true, cond-false, true≢false, false≢true}
+use Rattle.std.specs.Prelude.{◌≡◌, ℕ, ◌<◌, ◌≤◌, true, false, ◌⊎◌, List, [], ◌∷◌, ◌==◌, nat_lt, refl}
+use Rattle.std.proofs.Common.{sym, ap₂, ◌∙◌, inl, inr, arith}
+use Rattle.std.proofs.lemmas.Bool.{cases_order, eq-eqb, ne_eqb, lt-ltb, le-ltb, cond-true, cond-false, true≢false, false≢true}
 use Rattle.register.specs.Orders.{TotalOrder, bytes_before, code_before}
 
 -- equal first bytes leave it to the rest
@@ -71,40 +70,3 @@ code_order = record {
   transitive = λ a b c h k. bytes_transitive a.bytes b.bytes c.bytes h k;
   connected = λ a b h k. let e : a.bytes ≡ b.bytes = bytes_connected a.bytes b.bytes h k in λ i. record { bytes = e i };
 }
-
--- both sequences have a byte at i
-both_there : (xs ys : List ℕ) (i : ℕ) → i < length xs → i < length ys →
-    bytes_before (drop i xs) (drop i ys) ≡ bytes_before (slice_index xs i ∷ drop (i + 1) xs) (slice_index ys i ∷ drop (i + 1) ys)
-both_there xs ys i h k = ap₂ bytes_before (drop_more xs i 0 h) (drop_more ys i 0 k)
-
--- the bytes at i are equal
-pub compare_more : (xs ys : List ℕ) (i : ℕ) → i < length xs → i < length ys → slice_index xs i ≡ slice_index ys i →
-    bytes_before (drop i xs) (drop i ys) ≡ bytes_before xs ys → bytes_before (drop (i + 1) xs) (drop (i + 1) ys) ≡ bytes_before xs ys
-compare_more xs ys i h k e inv =
-    sym (same_first (slice_index xs i) (slice_index ys i) (drop (i + 1) xs) (drop (i + 1) ys) e) ∙ sym (both_there xs ys i h k) ∙ inv
-
--- they differ
-pub compare_there : (xs ys : List ℕ) (i : ℕ) → i < length xs → i < length ys → (slice_index xs i ≢ slice_index ys i) →
-    bytes_before (drop i xs) (drop i ys) ≡ bytes_before xs ys → nat_lt (slice_index xs i) (slice_index ys i) ≡ bytes_before xs ys
-compare_there xs ys i h k ne inv =
-    let x = slice_index_or xs i 0 in
-    let y = slice_index_or ys i 0 in
-    sym (cond-false (x == y) (bytes_before (drop (i + 1) xs) (drop (i + 1) ys)) (nat_lt x y) (ne_eqb x y ne)) ∙ sym (both_there xs ys i h k) ∙ inv
-
-before_none : (xs : List ℕ) → bytes_before xs [] ≡ false
-before_none [] = refl
-before_none (x ∷ xs) = refl
-
--- one sequence is at its end
-pub compare_all : (xs ys : List ℕ) (i : ℕ) → i ≤ length xs → i ≤ length ys → (length xs ≤ i) ⊎ (length ys ≤ i) →
-    bytes_before (drop i xs) (drop i ys) ≡ bytes_before xs ys → nat_lt (length xs) (length ys) ≡ bytes_before xs ys
-compare_all xs ys i h k o inv =
-    elim (cases_lt (length xs) (length ys)) [
-      | inl l ↦
-          let p : length xs ≤ i = elim o [ inl a ↦ a | inr b ↦ omega arith ] in
-          let q : i < length ys = omega arith in
-          lt-ltb (length xs) (length ys) l ∙ sym (ap₂ bytes_before (drop_all i xs p) (drop_more ys i 0 q)) ∙ inv
-      | inr l ↦
-          let p : length ys ≤ i = elim o [ inl a ↦ omega arith | inr b ↦ b ] in
-          le-ltb (length xs) (length ys) l ∙ sym (ap (bytes_before (drop i xs)) (drop_all i ys p) ∙ before_none (drop i xs)) ∙ inv
-    ]
