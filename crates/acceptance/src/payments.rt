@@ -1,15 +1,15 @@
 // Interest, costs and settlements of one bond.
-use money::amounts::cost;
-use money::coupons::{Coupon, Frequency};
+use money::amounts::{Delivered, Terms, Unfinished};
+use money::coupons::{Coupon, Frequency, UnknownFrequency};
 use money::periods::Period;
 use money::ranges::{Factor, Interest, Lots, Price, Rate, Ratio};
-use money::settlements::{Delivered, Failed, Settlement, Terms, Unfinished, settle};
+use money::settlements::{Failed, Settlement, settle};
 use std::test::Fail;
 
 fn interest() -> Option<Interest> {
     let coupon = Coupon {
         rate: Rate::new(28_500)?,
-        frequency: Frequency::of_number(2)?,
+        frequency: Frequency::try_from(2).ok()?,
         period: Period::new(20_040, 20_224, 20_101)?,
     };
     Some(coupon.accrued())
@@ -37,8 +37,12 @@ fn settled(failed: Failed, delivered: u32) -> Option<Settlement> {
 
 // What four lots cost.
 fn four_lots() -> Option<u64> {
-    let price = Price::new(1_012_500)?;
-    Some(cost(Lots::new(4)?, price, Factor::new(10_234)?, interest()?))
+    let delivered = Delivered {
+        lots: Lots::new(4)?,
+        factor: Factor::new(10_234)?,
+        interest: interest()?,
+    };
+    Some(delivered.cost(Price::new(1_012_500)?))
 }
 
 #[test]
@@ -50,7 +54,7 @@ fn amounts(rt: HostRuntime) -> Result<(), Fail> {
     assert!(rt; four_lots() == Some(4_163_666_739));
     assert!(rt; Price::new(0).is_none());
     assert!(rt; Price::new(2_000_001).is_none());
-    assert!(rt; Frequency::of_number(3).is_none());
+    assert!(rt; Frequency::try_from(3) == Err(UnknownFrequency(3)));
     assert!(rt; Period::new(20_040, 20_224, 20_225).is_none());
     Ok(())
 }

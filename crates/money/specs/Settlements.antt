@@ -3,9 +3,9 @@ use Rattle.std.specs.Prelude.{◌≡◌, ℕ, ◌+◌, ◌-◌}
 use Rattle.money.specs.Amounts.{cost, seller_difference, buyer_difference, performance, passed_on}
 use Rattle.money.specs.declared.settlements.Failed.{Failed}
 use Rattle.money.specs.declared.settlements.Failed.TheVariants.{Nobody, Seller, Buyer, Both}
-use Rattle.money.specs.declared.settlements.Terms.{Terms}
-use Rattle.money.specs.declared.settlements.Delivered.{Delivered}
-use Rattle.money.specs.declared.settlements.Unfinished.{Unfinished}
+use Rattle.money.specs.declared.amounts.Terms.{Terms}
+use Rattle.money.specs.declared.amounts.Delivered.{Delivered}
+use Rattle.money.specs.declared.amounts.Unfinished.{Unfinished}
 use Rattle.money.specs.declared.settlements.Payments.{Payments}
 use Rattle.money.specs.declared.settlements.Settlement.{Settlement}
 
@@ -31,23 +31,23 @@ both_failed k s = record { cost = k; difference = 0; share = 0; seller = payment
 
 -- What the delivered lots cost.
 abbrev pub cost_of : Terms → Delivered → ℕ
-cost_of t d = cost d.lots.value t.price.value d.factor.value d.interest.value
+cost_of t d = cost d.lots t.price d.factor d.interest
 
 -- The performance sum for the unfinished lots.
 abbrev pub sum_of : Terms → Unfinished → ℕ
-sum_of t u = performance u.lots.value t.price.value t.ratio.value
+sum_of t u = performance u.lots t.price t.ratio
 
 -- Its part that goes to the other side.
 abbrev pub share_of : Terms → Unfinished → ℕ
-share_of t u = passed_on (sum_of t u) t.share.value
+share_of t u = passed_on (sum_of t u) t.share
 
 -- The difference that a failed seller pays for the unfinished lots.
 abbrev pub seller_owes : Terms → Unfinished → ℕ
-seller_owes t u = seller_difference u.lots.value t.price.value u.factor.value u.valuation.value
+seller_owes t u = seller_difference u.lots t.price u.factor u.valuation
 
 -- The difference that a failed buyer pays for them.
 abbrev pub buyer_owes : Terms → Unfinished → ℕ
-buyer_owes t u = buyer_difference u.lots.value t.price.value u.factor.value u.valuation.value
+buyer_owes t u = buyer_difference u.lots t.price u.factor u.valuation
 
 -- The settlement of a leg, by who failed.
 abbrev pub settled : Failed → Terms → Delivered → Unfinished → Settlement

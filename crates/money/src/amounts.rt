@@ -4,6 +4,80 @@ ghost use Rattle.money.specs.Amounts.{half_up, cost, performance, passed_on, sel
 
 use crate::ranges::{Factor, Interest, Lots, Price, Ratio};
 
+// The contract's price, and what a failure costs: the performance ratio, and the share of it that goes to the other side.
+#[derive(Clone, Copy, Debug, PartialEq, Eq)]
+pub struct Terms {
+    pub price: Price,
+    pub ratio: Ratio,
+    pub share: Ratio,
+}
+
+impl Terms {
+    // What a failed side pays as performance sum for so many lots.
+    pub fn performance(&self, lots: Lots) -> u64
+        ensures amount { result ≡ performance lots self.now.price self.now.ratio }
+        ensures small { result ≤ 10 ^ 15 }
+    {
+        half_up(
+            u64::from(lots.value()) * u64::from(self.price.value()) * u64::from(self.ratio.value()),
+            10,
+        )
+    }
+
+    // The part of that performance sum that goes to the other side.
+    pub fn passed_on(&self, lots: Lots) -> u64
+        ensures amount { result ≡ passed_on (performance lots self.now.price self.now.ratio) self.now.share }
+        ensures within { result ≤ performance lots self.now.price self.now.ratio }
+    {
+        self.performance(lots) * u64::from(self.share.value()) / 10_000
+    }
+}
+
+// Delivered lots of a bond.
+#[derive(Clone, Copy, Debug, PartialEq, Eq)]
+pub struct Delivered {
+    pub lots: Lots,
+    pub factor: Factor,
+    pub interest: Interest,
+}
+
+impl Delivered {
+    // What the lots cost at a price.
+    pub fn cost(&self, price: Price) -> u64
+        ensures amount { result ≡ cost self.now.lots price self.now.factor self.now.interest }
+        ensures small { result ≤ 10 ^ 15 }
+    {
+        let each = due(price, self.factor) + u64::from(self.interest.value());
+        half_up(u64::from(self.lots.value()) * each, 10)
+    }
+}
+
+// Unfinished lots, and the bond by which their difference is measured.
+#[derive(Clone, Copy, Debug, PartialEq, Eq)]
+pub struct Unfinished {
+    pub lots: Lots,
+    pub factor: Factor,
+    pub valuation: Price,
+}
+
+impl Unfinished {
+    // What a failed seller pays as difference: how far the valuation lies above the price, for its lots.
+    pub fn seller_difference(&self, price: Price) -> u64
+        ensures amount { result ≡ seller_difference self.now.lots price self.now.factor self.now.valuation }
+        ensures small { result ≤ 10 ^ 15 }
+    {
+        excess(self.lots, worth(self.valuation), due(price, self.factor))
+    }
+
+    // What a failed buyer pays as difference: how far the price lies above the valuation, for its lots.
+    pub fn buyer_difference(&self, price: Price) -> u64
+        ensures amount { result ≡ buyer_difference self.now.lots price self.now.factor self.now.valuation }
+        ensures small { result ≤ 10 ^ 15 }
+    {
+        excess(self.lots, due(price, self.factor), worth(self.valuation))
+    }
+}
+
 // A quotient rounded to the nearest number, halves up.
 pub(crate) fn half_up(dividend: u64, divisor: u64) -> u64
     requires some { 1 ≤ divisor }
@@ -14,63 +88,27 @@ pub(crate) fn half_up(dividend: u64, divisor: u64) -> u64
     (2 * dividend + divisor) / (2 * divisor)
 }
 
-// What lots of a bond cost.
-pub fn cost(lots: Lots, price: Price, factor: Factor, interest: Interest) -> u64
-    ensures { result ≡ cost lots.value price.value factor.value interest.value }
-{
-    let each = due(price, factor) + interest.value() as u64;
-    half_up(lots.value() as u64 * each, 10)
-}
-
-// What a failed seller pays as difference: how far the valuation lies above the price, for so many lots.
-pub fn seller_difference(lots: Lots, price: Price, factor: Factor, valuation: Price) -> u64
-    ensures { result ≡ seller_difference lots.value price.value factor.value valuation.value }
-{
-    excess(lots, worth(valuation), due(price, factor))
-}
-
-// What a failed buyer pays as difference: how far the price lies above the valuation, for so many lots.
-pub fn buyer_difference(lots: Lots, price: Price, factor: Factor, valuation: Price) -> u64
-    ensures { result ≡ buyer_difference lots.value price.value factor.value valuation.value }
-{
-    excess(lots, due(price, factor), worth(valuation))
-}
-
-// What a failed side pays as performance sum.
-pub fn performance(lots: Lots, price: Price, ratio: Ratio) -> u64
-    ensures { result ≡ performance lots.value price.value ratio.value }
-{
-    half_up(
-        lots.value() as u64 * price.value() as u64 * ratio.value() as u64,
-        10,
-    )
-}
-
-// The part of a performance sum that goes to the other side.
-pub fn passed_on(lots: Lots, price: Price, ratio: Ratio, share: Ratio) -> u64
-    ensures { result ≡ passed_on (performance lots.value price.value ratio.value) share.value }
-{
-    performance(lots, price, ratio) * share.value() as u64 / 10_000
-}
-
 // What a lot is due by the contract, in 1/100,000,000 yuan per hundred of face.
 fn due(price: Price, factor: Factor) -> u64
-    ensures { result ≡ price.value * factor.value }
+    ensures amount { result ≡ price * factor }
+    ensures small { result ≤ 40000000000 }
 {
-    price.value() as u64 * factor.value() as u64
+    u64::from(price.value()) * u64::from(factor.value())
 }
 
 // What a lot is worth by a valuation, in the same unit.
 fn worth(valuation: Price) -> u64
-    ensures { result ≡ valuation.value * 10000 }
+    ensures amount { result ≡ valuation * 10000 }
+    ensures small { result ≤ 20000000000 }
 {
-    valuation.value() as u64 * 10_000
+    u64::from(valuation.value()) * 10_000
 }
 
 // How far one amount lies above another, for so many lots, in fen.
 fn excess(lots: Lots, high: u64, low: u64) -> u64
     requires { high ≤ 40000000000 }
-    ensures { result ≡ half_up (lots.value * (high - low)) 10 }
+    ensures amount { result ≡ half_up (lots * (high - low)) 10 }
+    ensures small { result ≤ 10 ^ 15 }
 {
-    half_up(lots.value() as u64 * high.saturating_sub(low), 10)
+    half_up(u64::from(lots.value()) * high.saturating_sub(low), 10)
 }

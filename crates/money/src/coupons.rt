@@ -1,38 +1,56 @@
 // Coupons, and the interest that has accrued on a day.
-ghost use Rattle.std.specs.Prelude.{◌≡◌, ◌*◌};
+ghost use Rattle.std.specs.Prelude.{◌≡◌, ◌*◌, ◌≤◌, ok_or};
 ghost use Rattle.money.specs.Amounts.{accrued};
 ghost use Rattle.money.specs.Coupons.{coupons, frequency};
 
 use crate::amounts::half_up;
 use crate::periods::Period;
 use crate::ranges::{Interest, Rate};
+use std::error::Error;
+use std::fmt;
 
 // How often a year a bond pays its coupon.
-#[derive(Clone, Copy)]
+#[derive(Clone, Copy, Debug, PartialEq, Eq)]
 pub enum Frequency {
     Yearly,
     HalfYearly,
     Quarterly,
 }
 
-impl Frequency {
-    // The frequency with 1, 2 or 4 coupons a year; `None` for any other number.
-    pub fn of_number(n: u32) -> Option<Frequency>
-        ensures { result ≡ frequency n }
-    {
+// A number of coupons a year that no bond pays.
+#[derive(Clone, Copy, Debug, PartialEq, Eq)]
+pub struct UnknownFrequency(pub u32);
+
+impl fmt::Display for UnknownFrequency {
+    fn fmt<W: fmt::Write>(&self, f: &mut fmt::Formatter<W>) -> fmt::Result {
+        write!(f, "no bond pays {} coupons a year", self.0)
+    }
+}
+
+impl Error for UnknownFrequency {}
+
+// The frequency with 1, 2 or 4 coupons a year; an error with the number for any other.
+impl TryFrom<u32> for Frequency {
+    type Error = UnknownFrequency;
+
+    ghost try_from_gives = { λ n r. r ≡ ok_or (frequency n) (record { 0 = n }) };
+
+    fn try_from(n: u32) -> Result<Frequency, UnknownFrequency> {
         match n {
-            1 => Some(Frequency::Yearly),
-            2 => Some(Frequency::HalfYearly),
-            4 => Some(Frequency::Quarterly),
-            _ => None,
+            1 => Ok(Frequency::Yearly),
+            2 => Ok(Frequency::HalfYearly),
+            4 => Ok(Frequency::Quarterly),
+            _ => Err(UnknownFrequency(n)),
         }
     }
+}
 
-    // Coupons a year.
-    pub fn number(self) -> u32
-        ensures { result ≡ coupons self }
-    {
-        match self {
+// Coupons a year.
+impl From<Frequency> for u32 {
+    ghost from_gives = { λ f n. n ≡ coupons f };
+
+    fn from(frequency: Frequency) -> u32 {
+        match frequency {
             Frequency::Yearly => 1,
             Frequency::HalfYearly => 2,
             Frequency::Quarterly => 4,
@@ -41,7 +59,7 @@ impl Frequency {
 }
 
 // A bond's coupon: its rate, how often it is paid, and the period on a day.
-#[derive(Clone, Copy)]
+#[derive(Clone, Copy, Debug, PartialEq, Eq)]
 pub struct Coupon {
     pub rate: Rate,
     pub frequency: Frequency,
@@ -50,8 +68,9 @@ pub struct Coupon {
 
 impl Coupon {
     // The interest accrued since the last coupon day.
+    #[tactic(auto, using(crate::proofs::Bounds::half_up_le))]
     pub fn accrued(&self) -> Interest
-        ensures { result.value ≡ accrued self.now.rate.value (coupons self.now.frequency) self.now.period.gone self.now.period.days }
+        ensures { result ≡ accrued self.now.rate (coupons self.now.frequency) self.now.period.gone self.now.period.days }
     {
         Interest::exactly(half_up(
             earned(self.rate, self.period),
@@ -62,14 +81,19 @@ impl Coupon {
 
 // A year's interest for each day of a period that has gone.
 fn earned(rate: Rate, period: Period) -> u64
-    ensures { result ≡ rate.value * 10000 * period.gone }
+    ensures amount { result ≡ rate * 10000 * period.gone }
+    ensures small { result ≤ 2000000000 * period.days }
 {
-    rate.value() as u64 * 10_000 * period.gone() as u64
+    u64::from(rate.value()) * 10_000 * u64::from(period.gone())
 }
 
 // The days of a year's coupons, each as long as this one.
+#[tactic(auto, using(crate::proofs::Bounds::coupons_few))]
 fn whole(frequency: Frequency, period: Period) -> u64
-    ensures { result ≡ coupons frequency * period.days }
+    ensures days { result ≡ coupons frequency * period.days }
+    ensures some { 1 ≤ result }
+    ensures few { result ≤ 1464 }
+    ensures no_less { period.days ≤ result }
 {
-    frequency.number() as u64 * period.days() as u64
+    u64::from(u32::from(frequency)) * u64::from(period.days())
 }

@@ -1,23 +1,32 @@
 // Numbers within the limits that the subject sets.
-ghost use Rattle.std.specs.Prelude.{◌≡◌, ◌≤◌};
-ghost use Rattle.std.specs.Option.{option_map};
+ghost use Rattle.std.specs.Prelude.{◌≡◌, ℕ, ◌≤◌};
 ghost use Rattle.std.specs.Bool.{then_some};
 ghost use Rattle.terms.specs.Codes.{between};
 
+use std::marker::Model;
+
 // A number from LOW to HIGH.
-#[derive(Clone, Copy)]
+#[derive(Clone, Copy, Debug, PartialEq, Eq)]
 pub struct Within<const LOW: u32, const HIGH: u32> {
     value: u32,
-    ghost low: { LOW ≤ value },
-    ghost high: { value ≤ HIGH },
+}
+
+impl<const LOW: u32, const HIGH: u32> Model for Within<LOW, HIGH> {
+    ghost Value = { ℕ };
+
+    ghost view = { λ w. w.value };
+
+    ghost invariant = { λ w. (LOW ≤ w.value) × (w.value ≤ HIGH) };
+
+    ghost inverse = { λ n. record { value = n } };
 }
 
 impl<const LOW: u32, const HIGH: u32> Within<LOW, HIGH> {
     // The number, or `None` exactly if it is out of range.
     pub fn new(value: u32) -> Option<Within<LOW, HIGH>>
-        ensures { option_map (λ x. x.value) result ≡ then_some (between LOW HIGH value) value }
+        ensures { result ≡ then_some (between LOW HIGH value) value }
     {
-        if value < LOW || value > HIGH {
+        if !(LOW..=HIGH).contains(&value) {
             return None;
         }
         Some(Within { value })
@@ -27,14 +36,14 @@ impl<const LOW: u32, const HIGH: u32> Within<LOW, HIGH> {
     pub(crate) fn exactly(value: u32) -> Within<LOW, HIGH>
         requires low { LOW ≤ value }
         requires high { value ≤ HIGH }
-        ensures { result.value ≡ value }
+        ensures { result ≡ value }
     {
         Within { value }
     }
 
     // The number itself.
     pub fn value(&self) -> u32
-        ensures number { result ≡ self.now.value }
+        ensures number { result ≡ self.now }
         ensures low { LOW ≤ result }
         ensures high { result ≤ HIGH }
     {
