@@ -1,2 +1,1 @@
-mod Searched
-mod Naming
+pub mod Searched

@@ -1,23 +1,22 @@
--- A search for a number in a list, turn by turn. Assumes nothing.
-use Rattle.std.proofs.Common.{◌≡◌, ℕ, ◌+◌, ◌<◌, ◌≤◌, true, false, ◌||◌, eqb, List, length, get_or, drop, sym, ◌∙◌}
-use Rattle.std.proofs.lemmas.List.{at_drop_more, at_drop_all}
-use Rattle.std.proofs.lemmas.Bool.{or_left}
+-- Searches: for a number in a list, and for the first business day of some. Assumes nothing.
+use Rattle.std.proofs.Common.{◌≡◌, ℕ, ◌+◌, ◌<◌, ◌≤◌, ◌==◌, ◌||◌, min, Bool, true, false, Option, Some, None, List, [], ◌∷◌, inl, inr, refl, ap, arith}
+use Rattle.std.proofs.lemmas.Bool.{cases_lt}
+use Rattle.std.specs.List.{list_any}
+use Rattle.std.specs.Option.{MatchOption}
 use Rattle.terms.specs.Month.{has}
+use Rattle.calendar.specs.Days.{NextWithin}
 
--- the number stands at i
-pub has_found : (n : ℕ) (xs : List ℕ) (i : ℕ) → i < length xs → eqb (get_or xs i 0) n ≡ true → has n (drop i xs) ≡ has n xs → true ≡ has n xs
-has_found n xs i h e k =
-    let s : has n (drop i xs) ≡ (eqb (get_or xs i 0) n || has n (drop (i + 1) xs)) = at_drop_more (has n) xs i 0 h in
-    sym (or_left (eqb (get_or xs i 0) n) (has n (drop (i + 1) xs)) e) ∙ sym s ∙ k
+-- a number stands in a list exactly if some item is that number
+pub has_any : (n : ℕ) (xs : List ℕ) → has n xs ≡ list_any (λ x. x == n) xs
+has_any n [] = refl
+has_any n (x ∷ xs) = ap (λ b. x == n || b) (has_any n xs)
 
--- it does not stand at i
-pub has_more : (n : ℕ) (xs : List ℕ) (i : ℕ) → i < length xs → eqb (get_or xs i 0) n ≡ false → has n (drop i xs) ≡ has n xs →
-    has n (drop (i + 1) xs) ≡ has n xs
-has_more n xs i h e k =
-    let s : has n (drop i xs) ≡ (eqb (get_or xs i 0) n || has n (drop (i + 1) xs)) = at_drop_more (has n) xs i 0 h in
-    let t : has n (drop i xs) ≡ (false || has n (drop (i + 1) xs)) = rw e at s in
-    sym t ∙ k
-
--- no place is left
-pub has_none : (n : ℕ) (xs : List ℕ) (i : ℕ) → length xs ≤ i → has n (drop i xs) ≡ has n xs → false ≡ has n xs
-has_none n xs i h k = sym (at_drop_all (has n) xs i h) ∙ k
+-- no business day lies past day 100,000, so that the first one up to there is the first one
+pub next_within : (business : ℕ → Bool) (day limit from to : ℕ) (r : Option ℕ) →
+    MatchOption r ((d : ℕ) → from ≤ d → d < to → business d ≡ false)
+    (λ n. (from ≤ n) × (n < to) × (business n ≡ true) × ((d : ℕ) → from ≤ d → d < n → business d ≡ false)) →
+    from ≡ day + 1 → to ≡ min limit 100000 + 1 → ((d : ℕ) → 100000 < d → business d ≡ false) → NextWithin business day limit r
+next_within business day limit from to None found a b bounded =
+    λ d later within. elim (cases_lt 100000 d) [ inl past ↦ bounded d past | inr few ↦ found d (omega arith) (omega arith) ]
+next_within business day limit from to (Some n) found a b bounded =
+    (record { later = omega arith; works = found.2; none_between = λ d later before. found.3 d (omega arith) before }, omega arith)

@@ -21,10 +21,5 @@ pub fn next_business_day<C: Calendar>(calendar: &C, day: u32, limit: u32) -> Opt
     if day >= last {
         return None;
     }
-    for next in day + 1..last + 1 {
-        if calendar.is_business_day(next) {
-            return Some(next);
-        }
-    }
-    None
+    (day + 1..last + 1).find(|d| calendar.is_business_day(*d))
 }

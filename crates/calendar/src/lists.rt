@@ -1,8 +1,8 @@
 // Lists of days.
-ghost use Rattle.std.specs.Prelude.{◌≡◌, ℕ, List, ◌==◌};
+ghost use Rattle.std.specs.Prelude.{◌≡◌, ℕ, List};
 ghost use Rattle.terms.specs.Month.{has};
 
-// A list of days that can be looked through, in any order.
+// A list of days that can be looked through, in any order. Any kind of list will do, not only a lent slice: it may lie in the calendar itself.
 pub trait DayList {
     ghost days: { Self → List ℕ };
 
@@ -14,26 +14,8 @@ pub trait DayList {
 impl DayList for &[u32] {
     ghost days = { λ s. s.now };
 
+    #[tactic(auto, using(crate::proofs::Searched::has_any))]
     fn has_day(&self, day: u32) -> bool {
-        holds(*self, day)
+        self.contains(&day)
     }
-}
-
-// Whether a list holds a day.
-pub(crate) fn holds(days: &[u32], day: u32) -> bool
-    ensures { result ≡ has day days.now }
-{
-    for d in days {
-        if is_same(*d, day) {
-            return true;
-        }
-    }
-    false
-}
-
-// Whether two days are the same.
-fn is_same(a: u32, b: u32) -> bool
-    ensures { result ≡ (a == b) }
-{
-    a == b
 }
