@@ -13,24 +13,24 @@ pub struct Terms {
 }
 
 impl Terms {
-    // What a failed side pays as performance sum for so many lots.
-    pub fn performance(&self, lots: Lots) -> u64
-        ensures amount { result ≡ performance lots self.now.price self.now.ratio }
-        ensures small { result ≤ 10 ^ 15 }
-    {
-        half_up(
-            u64::from(lots.value()) * u64::from(self.price.value()) * u64::from(self.ratio.value()),
-            10,
-        )
-    }
-
-    // The part of that performance sum that goes to the other side.
+    // The part of a performance sum for so many lots that goes to the other side.
     pub fn passed_on(&self, lots: Lots) -> u64
         ensures amount { result ≡ passed_on (performance lots self.now.price self.now.ratio) self.now.share }
         ensures within { result ≤ performance lots self.now.price self.now.ratio }
     {
-        self.performance(lots) * u64::from(self.share.value()) / 10_000
+        performance(lots, self.price, self.ratio) * u64::from(self.share.value()) / 10_000
     }
+}
+
+// What a failed side pays as performance sum.
+pub fn performance(lots: Lots, price: Price, ratio: Ratio) -> u64
+    ensures amount { result ≡ performance lots price ratio }
+    ensures small { result ≤ 10 ^ 15 }
+{
+    half_up(
+        u64::from(lots.value()) * u64::from(price.value()) * u64::from(ratio.value()),
+        10,
+    )
 }
 
 // Delivered lots of a bond.

@@ -6,8 +6,7 @@ ghost use Rattle.money.specs.Coupons.{coupons, frequency};
 use crate::amounts::half_up;
 use crate::periods::Period;
 use crate::ranges::{Interest, Rate};
-use std::error::Error;
-use std::fmt;
+use thiserror::Error;
 
 // How often a year a bond pays its coupon.
 #[derive(Clone, Copy, Debug, PartialEq, Eq)]
@@ -18,16 +17,9 @@ pub enum Frequency {
 }
 
 // A number of coupons a year that no bond pays.
-#[derive(Clone, Copy, Debug, PartialEq, Eq)]
+#[derive(Clone, Copy, Debug, PartialEq, Eq, Error)]
+#[error("no bond pays {0} coupons a year")]
 pub struct UnknownFrequency(pub u32);
-
-impl fmt::Display for UnknownFrequency {
-    fn fmt<W: fmt::Write>(&self, f: &mut fmt::Formatter<W>) -> fmt::Result {
-        write!(f, "no bond pays {} coupons a year", self.0)
-    }
-}
-
-impl Error for UnknownFrequency {}
 
 // The frequency with 1, 2 or 4 coupons a year; an error with the number for any other.
 impl TryFrom<u32> for Frequency {

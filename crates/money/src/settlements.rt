@@ -2,7 +2,7 @@
 ghost use Rattle.std.specs.Prelude.{◌≡◌, ◌^◌, ◌≤◌};
 ghost use Rattle.money.specs.Settlements.{payments, settled, all_done, seller_failed, buyer_failed, both_failed, Balanced};
 
-use crate::amounts::{Delivered, Terms, Unfinished};
+use crate::amounts::{Delivered, Terms, Unfinished, performance};
 
 // Who failed to deliver or to pay.
 #[derive(Clone, Copy, Debug, PartialEq, Eq)]
@@ -47,7 +47,7 @@ pub fn settle(
         cost: delivered.cost(terms.price),
         seller_difference: unfinished.seller_difference(terms.price),
         buyer_difference: unfinished.buyer_difference(terms.price),
-        performance: terms.performance(unfinished.lots),
+        performance: performance(unfinished.lots, terms.price, terms.ratio),
         share: terms.passed_on(unfinished.lots),
     };
     match failed {
