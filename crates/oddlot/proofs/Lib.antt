@@ -1,3 +1,1 @@
-mod Bounds
 pub mod Shareable
-mod Steps

@@ -22,6 +22,12 @@ whole n t (q ∷ qs) =
     let b : sum (q ∷ qs) * n ≡ q * n + sum qs * n = ap (λ z. z * n) (sum_by-cons (λ (x : ℕ). x) q qs) ∙ add-mul q (sum qs) n in
     omega (arith, a, b, sum_by-cons (λ x. x * n % t) q qs, div-add-mod' (q * n) t, whole n t qs)
 
+-- the shares rounded down do not pass n
+pub within : (lots : List ℕ) (n : ℕ) → Shareable lots n → sum_by (rounded n (sum lots)) lots ≤ n
+within lots n s =
+    let e = whole n (sum lots) lots in
+    le_of_mul-le-mul_right {k = sum lots} (omega (arith, e, mul_comm (sum lots) n)) (sum_positive lots s.sizes s.some)
+
 module _ (rank : ℕ → ℕ → ℕ) (broken : (lots remainder : ℕ) → 1 ≤ lots → 1 ≤ remainder → 1 ≤ rank lots remainder) where
   -- what rounding leaves is less than t for each entry with a priority, and nothing for the others
   leaves : (n t : ℕ) → 0 < t → (lots : List ℕ) → AllByRecursion (λ q. (1 ≤ q) × (q ≤ 100000)) lots →
@@ -48,12 +54,7 @@ module _ (rank : ℕ → ℕ → ℕ) (broken : (lots remainder : ℕ) → 1 ≤
     pos : 0 < sum lots
     pos = sum_positive lots s.sizes s.some
 
-    -- the shares rounded down do not pass n, and no more lots are left than entries have a priority
-    pub within : sum_by (rounded n (sum lots)) lots ≤ n
-    within =
-        let e = whole n (sum lots) lots in
-        le_of_mul-le-mul_right {k = sum lots} (omega (arith, e, mul_comm (sum lots) n)) pos
-
+    -- no more lots are left than entries have a priority
     left_few : n - sum_by (rounded n (sum lots)) lots ≤ count_by (λ q. nat_lt 0 (standing rank n (sum lots) q)) lots
     left_few =
         let left = n - sum_by (rounded n (sum lots)) lots in

@@ -3,6 +3,7 @@ ghost use Rattle.oddlot.specs.Facts.{TwoOfThree};
 ghost use Rattle.oddlot.specs.Priorities.{FirstCount};
 
 // The first r by a priority are r entries.
+#[tactic(auto, using(crate::specs::First::first_count))]
 pub fn first_count()
     ensures { FirstCount }
 {}

@@ -12,7 +12,7 @@ use crate::running::RunningRule;
 use terms::refusals::Refusal;
 
 // A rule of the house.
-#[derive(Clone, Copy)]
+#[derive(Clone, Copy, Debug, PartialEq, Eq)]
 pub enum HouseRule {
     Running,
     Remainder,

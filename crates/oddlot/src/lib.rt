@@ -5,6 +5,7 @@ mod checks;
 pub mod facts;
 pub mod house;
 pub mod priorities;
+mod ranking;
 pub mod rules;
 pub mod running;
 mod shares;

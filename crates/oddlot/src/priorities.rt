@@ -1,11 +1,10 @@
 // Rules that round every share down and give the lots left over by a priority.
-ghost use Rattle.std.specs.Prelude.{◌≡◌, ℕ, ◌+◌, ◌-◌, ◌^◌, ◌<◌, ◌≤◌, true, length, sum_by, sum, count_by, nat_le, slice_index};
-ghost use Rattle.oddlot.specs.Priorities.{ahead, first_by, by_priority, largest_remainder, rounded, standing};
-ghost use Rattle.oddlot.specs.Sharing.{can_split};
+ghost use Rattle.std.specs.Prelude.{◌≡◌, ℕ, ◌≤◌};
+ghost use Rattle.oddlot.specs.Priorities.{by_priority, largest_remainder};
 ghost use Rattle.std.proofs.Common.{rules};
 ghost use Rattle.oddlot.specs.Fair.{priority_keeps};
 
-use crate::checks::can_split;
+use crate::ranking::Ranking;
 use crate::rules::OddLots;
 use crate::shares::Sharing;
 use terms::refusals::Refusal;
@@ -24,7 +23,7 @@ pub trait Priority {
 }
 
 // The largest remainder first.
-#[derive(Clone, Copy)]
+#[derive(Clone, Copy, Debug, PartialEq, Eq)]
 pub struct LargestRemainder;
 
 impl Priority for LargestRemainder {
@@ -40,7 +39,7 @@ impl Priority for LargestRemainder {
 }
 
 // The rule by a priority; among equals the lower place goes first.
-#[derive(Clone, Copy)]
+#[derive(Clone, Copy, Debug, PartialEq, Eq)]
 pub struct ByPriority<P> {
     pub priority: P,
 }
@@ -51,89 +50,8 @@ impl<P: Priority> OddLots for ByPriority<P> {
     ghost meaning = { λ rule. priority_keeps (P.rank rule.priority) (P.whole rule.priority) (P.broken rule.priority) };
 
     fn split(&self, lots: &[u32], n: u32, parts: &mut [u32]) -> Result<(), Refusal> {
-        if !can_split(lots, n, parts.len()) {
-            return Err(Refusal::NotShareable);
-        }
-        fill(&self.priority, lots, n, parts);
+        let sharing = Sharing::new(lots, n, parts.len())?;
+        Ranking::new(&self.priority, sharing).fill(parts);
         Ok(())
     }
-}
-
-// Writes the parts by a priority.
-fn fill<P: Priority>(priority: &P, lots: &[u32], n: u32, parts: &mut [u32])
-    requires { can_split lots.now n (length parts.old) ≡ true }
-    ensures { parts.new ≡ by_priority (P.rank priority.now) lots.now n }
-{
-    let sharing = Sharing::among(lots, n, parts.len());
-    let left = n as u64 - rounded_shares(lots, sharing);
-    for i in 0..lots.len() {
-        parts[i] = part(priority, lots, sharing, left, i);
-    }
-}
-
-// All shares of a list, rounded down.
-fn rounded_shares(lots: &[u32], sharing: Sharing) -> u64
-    requires { length lots.now ≤ 256 }
-    ensures { result ≡ sum_by (rounded sharing.n sharing.total) lots.now }
-{
-    let mut sum: u64 = 0;
-    for q in lots {
-        sum += sharing.rounded(*q as u64);
-    }
-    sum
-}
-
-// The part of the entry at place i: its share rounded down, and one lot more if fewer entries stand ahead of it than lots are left.
-fn part<P: Priority>(priority: &P, lots: &[u32], sharing: Sharing, left: u64, i: usize) -> u32
-    requires there { i < length lots.now }
-    requires size { slice_index lots.now i ≤ 100000 }
-    requires few { length lots.now ≤ 256 }
-    ensures { result ≡ rounded sharing.n sharing.total (slice_index lots.now i) + first_by (standing (P.rank priority.now) sharing.n sharing.total) left lots.now i }
-{
-    let share = sharing.rounded(lots[i] as u64) as u32;
-    if (count_ahead(priority, lots, sharing, i) as u64) < left {
-        share + 1
-    } else {
-        share
-    }
-}
-
-// How many entries stand ahead of the one at place i.
-fn count_ahead<P: Priority>(priority: &P, lots: &[u32], sharing: Sharing, i: usize) -> usize
-    requires there { i < length lots.now }
-    requires few { length lots.now ≤ 256 }
-    ensures { result ≡ ahead (standing (P.rank priority.now) sharing.n sharing.total) lots.now i }
-{
-    let own = standing(priority, lots[i], sharing);
-    count_from(priority, &lots[..i], sharing, own)
-        + count_from(priority, &lots[i + 1..], sharing, own + 1)
-}
-
-// How many entries have at least a priority.
-fn count_from<P: Priority>(priority: &P, lots: &[u32], sharing: Sharing, least: u64) -> usize
-    ensures count { result ≡ count_by (λ q. nat_le least (standing (P.rank priority.now) sharing.n sharing.total q)) lots.now }
-    ensures few { result ≤ length lots.now }
-{
-    let mut count = 0;
-    for q in lots {
-        if reaches(priority, *q, sharing, least) {
-            count += 1;
-        }
-    }
-    count
-}
-
-// Whether an entry has at least a priority.
-fn reaches<P: Priority>(priority: &P, lots: u32, sharing: Sharing, least: u64) -> bool
-    ensures { result ≡ nat_le least (standing (P.rank priority.now) sharing.n sharing.total lots) }
-{
-    least <= standing(priority, lots, sharing)
-}
-
-// The priority of an entry.
-fn standing<P: Priority>(priority: &P, lots: u32, sharing: Sharing) -> u64
-    ensures rank { result ≡ standing (P.rank priority.now) sharing.n sharing.total lots }
-    ensures small { result < 2 ^ 32 }
-{
-    priority.rank_of(lots, sharing.remainder(lots)) as u64
 }
