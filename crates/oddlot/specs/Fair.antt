@@ -1,16 +1,17 @@
 -- A rule by a priority keeps the meaning of an odd-lot rule. Assumes nothing.
 -- Lemmas alone: a law cites them, which it may only where they stand in specs/, and no contract does.
-use Rattle.std.specs.Prelude.{◌≡◌, ℕ, ◌+◌, ◌-◌, ◌*◌, ◌/◌, ◌%◌, ◌<◌, ◌≤◌, cond, nat_lt, List, [], ◌∷◌, length, sum_by, sum, count_by, slice_index, slice_index_or}
+use Rattle.std.specs.Prelude.{◌≡◌, ℕ, ◌+◌, ◌-◌, ◌*◌, ◌/◌, ◌%◌, ◌<◌, ◌≤◌, cond, nat_lt, List, [], ◌∷◌, length, sum_by, sum, count_by, slice_index}
 use Rattle.std.proofs.Common.{ap, ◌∙◌, inl, inr, add-mul, mul_comm, zero-mul, le_of_mul-le-mul_right, div-add-mod', arith}
 use Rattle.std.specs.List.{AllByRecursion}
 use Rattle.std.proofs.lemmas.Nat.{le-div, mod_below}
 use Rattle.std.proofs.lemmas.List.FromFn.{length-map-range_with_len, get_or-map-range_with_len}
 use Rattle.std.proofs.lemmas.List.Sums.{sum_by-cons, count_by-le-length}
-use Rattle.std.proofs.lemmas.Bool.{cases_lt, lt-ltb, le-ltb}
+use Rattle.std.proofs.lemmas.Bool.{cases_lt}
+use Rattle.std.proofs.lemmas.Bool.Decides.{nat_tests}
 use Rattle.terms.specs.OddLots.{Shareable, KeepsMeaning}
 use Rattle.terms.proofs.Fill.{sum_positive}
-use Rattle.oddlot.specs.Priorities.{ahead, first_by, rounded, standing, part_by, by_priority}
-use Rattle.oddlot.specs.Tally.{tally_add, tally_list, tally_counted, passed, failed}
+use Rattle.oddlot.specs.Priorities.{first_by, rounded, standing, part_by, by_priority}
+use Rattle.oddlot.specs.Tally.{tally_add, tally_list, tally_counted}
 use Rattle.oddlot.specs.First.{ahead_least, first_tally}
 
 -- the shares rounded down and what rounding leaves make up the whole
@@ -34,21 +35,16 @@ module _ (rank : ℕ → ℕ → ℕ) (broken : (lots remainder : ℕ) → 1 ≤
       sum_by (λ q. q * n % t) lots ≤ count_by (λ q. nat_lt 0 (standing rank n t q)) lots * t
   leaves n t p [] h = omega (arith, zero-mul t)
   leaves n t p (q ∷ qs) h =
-      let r = q * n % t in
-      let own = rank q r in
-      let some = nat_lt 0 own in
-      let c : count_by (λ x. nat_lt 0 (standing rank n t x)) (q ∷ qs) * t ≡ cond some 1 0 * t + count_by (λ x. nat_lt 0 (standing rank n t x)) qs * t =
-      ap (λ z. z * t) (sum_by-cons (λ x. cond (nat_lt 0 (standing rank n t x)) 1 0) q qs) ∙ add-mul (cond some 1 0) (count_by (λ x. nat_lt 0 (standing rank n t x)) qs) t in
-      let rest = leaves n t p qs h.1 in
-      let s = sum_by-cons (λ x. x * n % t) q qs in
-      let small = mod_below (q * n) t p in
-      elim (cases_lt 0 r) [
-        | inl k ↦
-            let o : 0 < own = broken q r h.0.0 k in
-            let one : cond some 1 0 * t ≡ 1 * t = ap (λ z. z * t) (passed some (lt-ltb 0 own o)) in
-            omega (arith, one)
+      let some : ℕ = cond (nat_lt 0 (standing rank n t q)) 1 0 in
+      let rest : ℕ = count_by (λ x. nat_lt 0 (standing rank n t x)) qs in
+      let c : count_by (λ x. nat_lt 0 (standing rank n t x)) (q ∷ qs) * t ≡ some * t + rest * t =
+      ap (λ z. z * t) (sum_by-cons (λ x. cond (nat_lt 0 (standing rank n t x)) 1 0) q qs) ∙ add-mul some rest t in
+      let own : q * n % t ≤ some * t =
+      elim (cases_lt 0 (q * n % t)) [
+        | inl k ↦ let one : some ≡ 1 = grind (arith, nat_tests, broken q (q * n % t) h.0.0 k) in omega (arith, ap (λ z. z * t) one, mod_below (q * n) t p)
         | inr k ↦ omega arith
-      ]
+      ] in
+      omega (arith, sum_by-cons (λ x. x * n % t) q qs, leaves n t p qs h.1)
 
   module _ (none : (lots : ℕ) → rank lots 0 ≡ 0) (lots : List ℕ) (n : ℕ) (s : Shareable lots n) where
     pos : 0 < sum lots
@@ -59,7 +55,7 @@ module _ (rank : ℕ → ℕ → ℕ) (broken : (lots remainder : ℕ) → 1 ≤
     left_few =
         let left = n - sum_by (rounded n (sum lots)) lots in
         let e = whole n (sum lots) lots in
-        let w = within in
+        let w = within lots n s in
         let k : n ≡ sum_by (rounded n (sum lots)) lots + left = omega arith in
         let m : n * sum lots ≡ sum_by (rounded n (sum lots)) lots * sum lots + left * sum lots =
         ap (λ z. z * sum lots) k ∙ add-mul (sum_by (rounded n (sum lots)) lots) left (sum lots) in
@@ -73,7 +69,7 @@ module _ (rank : ℕ → ℕ → ℕ) (broken : (lots remainder : ℕ) → 1 ≤
         let g = tally_list (rounded n (sum lots)) lots in
         let a = tally_add (λ i. rounded n (sum lots) (slice_index lots i)) (first_by p left lots) (length lots) in
         let c = tally_counted (part_by rank n lots) (length lots) in
-        let w = within in
+        let w = within lots n s in
         omega (arith, c, a, f, g)
 
     part_at : (i : ℕ) → i < length lots → slice_index (by_priority rank lots n) i ≡ part_by rank n lots i
@@ -81,26 +77,17 @@ module _ (rank : ℕ → ℕ → ℕ) (broken : (lots remainder : ℕ) → 1 ≤
 
     part_most : (i : ℕ) → i < length lots → part_by rank n lots i ≤ (slice_index lots i * n + (sum lots - 1)) / sum lots
     part_most i l =
-        let q = slice_index_or lots i 0 in
-        let r = q * n % sum lots in
-        let p = standing rank n (sum lots) in
-        let left = n - sum_by (rounded n (sum lots)) lots in
-        let d = div-add-mod' (q * n) (sum lots) in
-        let pp = pos in
-        elim (cases_lt 0 r) [
+        let q = slice_index lots i in
+        let t = sum lots in
+        let whole_share : q * n / t ≤ (q * n + (t - 1)) / t = le-div (q * n / t) (q * n + (t - 1)) t pos (omega (arith, div-add-mod' (q * n) t)) in
+        elim (cases_lt 0 (q * n % t)) [
           | inl k ↦
-              let least : q * n / sum lots + 1 ≤ (q * n + (sum lots - 1)) / sum lots =
-              le-div (q * n / sum lots + 1) (q * n + (sum lots - 1)) (sum lots) pp (omega (arith, add-mul (q * n / sum lots) 1 (sum lots))) in
-              elim (cases_lt (ahead p lots i) left) [
-                | inl a ↦ omega (arith, passed (nat_lt (ahead p lots i) left) (lt-ltb (ahead p lots i) left a), least)
-                | inr a ↦ omega (arith, failed (nat_lt (ahead p lots i) left) (le-ltb (ahead p lots i) left a), least)
-              ]
+              let one_more : q * n / t + 1 ≤ (q * n + (t - 1)) / t =
+              le-div (q * n / t + 1) (q * n + (t - 1)) t pos (omega (arith, div-add-mod' (q * n) t, add-mul (q * n / t) 1 t)) in
+              grind (arith, nat_tests)
           | inr k ↦
-              let zero_rank : p q ≡ 0 = ap (rank q) (omega arith) ∙ none q in
-              let a = ahead_least p 0 lots i l (omega arith) in
-              let b : left ≤ ahead p lots i = omega (arith, left_few) in
-              let least : q * n / sum lots ≤ (q * n + (sum lots - 1)) / sum lots = le-div (q * n / sum lots) (q * n + (sum lots - 1)) (sum lots) pp (omega arith) in
-              omega (arith, failed (nat_lt (ahead p lots i) left) (le-ltb (ahead p lots i) left b), least)
+              let no_rank : standing rank n t q ≡ 0 = ap (rank q) (omega arith) ∙ none q in
+              grind (arith, nat_tests, left_few, ahead_least (standing rank n t) 0 lots i l (omega arith))
         ]
 
 pub priority_keeps : (rank : ℕ → ℕ → ℕ) → ((lots : ℕ) → rank lots 0 ≡ 0) → ((lots remainder : ℕ) → 1 ≤ lots → 1 ≤ remainder → 1 ≤ rank lots remainder) →

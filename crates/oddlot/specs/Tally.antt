@@ -1,17 +1,9 @@
 -- Sums of a function over the places of a list, and counts of a list cut at a place. Assumes nothing.
 -- Lemmas alone: a law cites them, which it may only where they stand in specs/, and no contract does.
-use Rattle.std.specs.Prelude.{◌≡◌, ℕ, zero, suc, ◌+◌, ◌<◌, Bool, true, false, cond, List, [], ◌∷◌, map, length, take, drop, sum_by, sum, count_by, slice_index, refl}
+use Rattle.std.specs.Prelude.{◌≡◌, ℕ, zero, suc, ◌+◌, ◌<◌, Bool, cond, List, [], ◌∷◌, map, length, take, drop, sum_by, sum, count_by, slice_index, refl}
 use Rattle.std.proofs.Common.{ap, ◌∙◌, add-one, arith}
 use Rattle.std.specs.List.{range_with_len}
 use Rattle.std.proofs.lemmas.List.Sums.{sum_by-cons, sum_by-take-drop, sum_by-drop_more}
-use Rattle.std.proofs.lemmas.Bool.{cond-true, cond-false}
-
--- a test as a number
-pub passed : (b : Bool) → b ≡ true → ◌≡◌ {A = ℕ} (cond b 1 0) 1
-passed b e = cond-true b 1 0 e
-
-pub failed : (b : Bool) → b ≡ false → ◌≡◌ {A = ℕ} (cond b 1 0) 0
-failed b e = cond-false b 1 0 e
 
 -- the sum of f over the first n numbers
 abbrev pub tally : (ℕ → ℕ) → ℕ → ℕ

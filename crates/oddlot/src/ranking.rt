@@ -5,7 +5,7 @@ ghost use Rattle.oddlot.specs.Priorities.{ahead, by_priority, part_by, rounded, 
 use crate::priorities::Priority;
 use crate::shares::Sharing;
 
-// The entries of a sharing, ranked by a priority, and the lots that rounding their shares down leaves over.
+// The entries of a sharing, ranked by a priority, and the lots that rounding every share down leaves over.
 #[derive(Drop)]
 pub(crate) struct Ranking<'a, P> {
     priority: &'a P,
@@ -15,15 +15,15 @@ pub(crate) struct Ranking<'a, P> {
 }
 
 impl<'a, P: Priority> Ranking<'a, P> {
+    // The ranking of a sharing's entries by a priority.
     pub(crate) fn new(priority: &'a P, sharing: Sharing<'a>) -> Ranking<'a, P>
         ensures priority { result.priority ≡ priority.entry }
         ensures sharing { result.sharing ≡ sharing.entry }
     {
-        let left = sharing.left();
         Ranking {
             priority,
+            left: sharing.left(),
             sharing,
-            left,
         }
     }
 
@@ -51,9 +51,11 @@ impl<'a, P: Priority> Ranking<'a, P> {
     }
 
     // How many entries stand ahead of the one at place i.
+    #[tactic(auto, using(std::proofs::lemmas::List::take_rest))]
     fn count_ahead(&self, i: usize) -> usize
         requires { i < length self.now.sharing.lots.now }
-        ensures { result ≡ ahead (standing (P.rank self.now.priority.now) self.now.sharing.n (sum self.now.sharing.lots.now)) self.now.sharing.lots.now i }
+        ensures { let sharing = self.now.sharing in
+            result ≡ ahead (standing (P.rank self.now.priority.now) sharing.n (sum sharing.lots.now)) sharing.lots.now i }
     {
         let lots = self.sharing.lots;
         let own = self.standing(lots[i]);
@@ -70,7 +72,8 @@ impl<'a, P: Priority> Ranking<'a, P> {
 
     // The priority of an entry of some lots.
     fn standing(&self, lots: u32) -> u32
-        ensures { result ≡ standing (P.rank self.now.priority.now) self.now.sharing.n (sum self.now.sharing.lots.now) lots }
+        ensures { let sharing = self.now.sharing in
+            result ≡ standing (P.rank self.now.priority.now) sharing.n (sum sharing.lots.now) lots }
     {
         self.priority.rank_of(lots, self.sharing.remainder(lots))
     }

@@ -18,6 +18,7 @@ impl OddLots for RunningRule {
     fn split(&self, lots: &[u32], n: u32, parts: &mut [u32]) -> Result<(), Refusal> {
         let sharing = Sharing::new(lots, n, parts.len())?;
         let mut before = 0;
+        // By place: of parts written through a zip with the lots nothing is known afterwards.
         for (i, part) in parts.iter_mut().enumerate() {
             let after = before + lots[i];
             *part = sharing.between(before, after);

@@ -20,7 +20,7 @@ pub(crate) struct Sharing<'a> {
 }
 
 impl<'a> Sharing<'a> {
-    // The sharing of n lots among the entries of a list; refused exactly if no rule answers for the list, the number and an area of so many places.
+    // The sharing of n lots among the entries of a list. Refused exactly if no rule answers for the list, the number and an area of so many places.
     pub(crate) fn new(lots: &'a [u32], n: u32, places: usize) -> Result<Sharing<'a>, Refusal>
         ensures answered { OnOk result (can_split lots.now n places ≡ true) }
         ensures list { IfOk result (λ s. s.lots.now ≡ lots.now) }
@@ -49,7 +49,7 @@ impl<'a> Sharing<'a> {
     // The share of what lies between two totals, each rounded down.
     pub(crate) fn between(&self, before: u32, after: u32) -> u32
         requires { before ≤ after }
-        ensures { result ≡ rounded self.now.n (sum self.now.lots.now) after - rounded self.now.n (sum self.now.lots.now) before }
+        ensures { let share = rounded self.now.n (sum self.now.lots.now) in result ≡ share after - share before }
     {
         self.rounded(after) - self.rounded(before)
     }

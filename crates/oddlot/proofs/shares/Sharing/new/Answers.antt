@@ -1,4 +1,4 @@
-use Rattle.std.proofs.Common.{◌≡◌, true, length, ◌∙◌, sym, subst, arith}
+use Rattle.std.proofs.Common.{◌≡◌, true, ◌∙◌, sym, subst, arith}
 use Rattle.terms.proofs.Fill.{sum_positive}
 use Rattle.oddlot.specs.Sharing.{can_split}
 use Rattle.oddlot.specs.Fair.{within}
