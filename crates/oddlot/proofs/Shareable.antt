@@ -7,6 +7,7 @@ use Rattle.terms.specs.Codes.{between}
 use Rattle.terms.specs.OddLots.{Shareable}
 use Rattle.oddlot.specs.Sharing.{can_split}
 
+-- each entry of a list that passes has 1 to 100,000 lots
 sizes_from : (xs : List ℕ) → list_all (between 1 100000) xs ≡ true → AllByRecursion (λ q. (1 ≤ q) × (q ≤ 100000)) xs
 sizes_from [] h = tt
 sizes_from (x ∷ xs) h = ((grind (arith, nat_tests), grind (arith, nat_tests)), sizes_from xs (grind (arith, nat_tests)))
