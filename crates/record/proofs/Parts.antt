@@ -1,28 +1,10 @@
 -- Parts of a record. Assumes nothing.
-use Rattle.std.proofs.Common.{◌≡◌, ℕ, suc, ◌+◌, ◌-◌, ◌*◌, ◌/◌, ◌%◌, ◌<◌, ◌≤◌, List, [], ◌∷◌, ◌++◌, length, get_or, take, drop, sym, refl, ap, ◌∙◌, arith, length-drop, take-append-drop, length-take, drop-drop, take-add}
+use Rattle.std.proofs.Common.{◌≡◌, ℕ, ◌+◌, ◌-◌, ◌*◌, ◌/◌, ◌%◌, ◌<◌, ◌≤◌, List, [], ◌∷◌, ◌++◌, length, get_or, take, drop, sym, refl, ap, ◌∙◌, arith, length-drop, take-append-drop, length-take, drop-drop, take-add}
 use Rattle.std.specs.List.{AllByRecursion}
 use Rattle.std.proofs.ByRecursion.{All-from_get_or, All-take, All-drop}
 use Rattle.std.proofs.lemmas.List.{drop_more, drop_all, take_rest}
 use Rattle.record.specs.Bytes.{value, bytes_of, part}
 use Rattle.record.specs.Fields.{entry_at, entry_bytes, fields, laid_out}
-
--- the first byte of a part, and the rest of it
-part_step : (xs : List ℕ) (at next n : ℕ) → next ≡ at + 1 → at < length xs → part at (suc n) xs ≡ get_or xs at 0 ∷ part next n xs
-part_step xs at next n e l = ap (take (suc n)) (drop_more xs at 0 l) ∙ ap (λ k. get_or xs at 0 ∷ part k n xs) (sym e)
-
-pub part_2 : (xs : List ℕ) (at : ℕ) → at + 2 ≤ length xs → part at 2 xs ≡ get_or xs at 0 ∷ get_or xs (at + 1) 0 ∷ []
-part_2 xs at l =
-    part_step xs at (at + 1) 1 refl (omega arith) ∙ ap (λ r. get_or xs at 0 ∷ r) (part_step xs (at + 1) (at + 2) 0 (omega arith) (omega arith))
-
-pub part_4 : (xs : List ℕ) (at : ℕ) → at + 4 ≤ length xs →
-    part at 4 xs ≡ get_or xs at 0 ∷ get_or xs (at + 1) 0 ∷ get_or xs (at + 2) 0 ∷ get_or xs (at + 3) 0 ∷ []
-part_4 xs at l =
-    part_step xs at (at + 1) 3 refl (omega arith) ∙ ap (λ r. get_or xs at 0 ∷ r)
-    (part_step xs (at + 1) (at + 2) 2 (omega arith) (omega arith) ∙ ap (λ r. get_or xs (at + 1) 0 ∷ r) (part_2 xs (at + 2) (omega arith)
-    ∙ ap (λ k. get_or xs (at + 2) 0 ∷ get_or xs k 0 ∷ []) (third at)))
-  where
-    third : (at : ℕ) → at + 2 + 1 ≡ at + 3
-    third at = omega arith
 
 -- two parts, one behind the other
 pub part_join : (xs : List ℕ) (at m n : ℕ) → part at m xs ++ part (at + m) n xs ≡ part at (m + n) xs

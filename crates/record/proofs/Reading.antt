@@ -1,9 +1,12 @@
 -- What is known of a record that is read, or refused. Assumes nothing.
-use Rattle.std.proofs.Common.{◌≡◌, ℕ, true, cond, eqb, List, length, Some, None, Option, sym, ap, ◌∙◌, inl, inr, arith}
+use Rattle.std.proofs.Common.{◌≡◌, ℕ, true, cond, eqb, List, length, Some, None, Option, Ok, Err, refl, sym, ap, ◌∙◌, inl, inr, arith}
 use Rattle.std.proofs.lemmas.Bool.{cases_Bool, cond-true, cond-false, eqb-true}
+use Rattle.std.specs.Result.{result_ok}
 use Rattle.terms.specs.Answers.{refused, granted}
+use Rattle.terms.specs.declared.refusals.Refusal.{Refusal}
+use Rattle.terms.specs.declared.refusals.Refusal.TheVariants.{UnknownLetter}
 use Rattle.record.specs.Fields.{fields}
-use Rattle.record.specs.Layouts.{unnamed_zero, lettered, reading}
+use Rattle.record.specs.Layouts.{letter_or_refusal, unnamed_zero, lettered, reading}
 use Rattle.record.specs.declared.fields.Fields.{Fields}
 use Rattle.record.specs.declared.tables.Layout.{Layout}
 
@@ -32,6 +35,26 @@ module _ {L : Type 0} (named : ℕ → Option L) (layout : L → Layout) (bs : L
             let z : ◌≡◌ {A = ℕ} 0 1 = cc none in
             absurd (omega arith)
       ]
+
+  -- it is read by its letter
+  pub reading_known : (f : Fields) (letter : L) → Some f ≡ cond (eqb (length bs) 64) (Some (fields bs)) None → Ok letter ≡ letter_or_refusal (named f.letter) →
+      reading named layout bs ≡ cond (unnamed_zero (layout letter) f) (granted (letter, f)) (refused 3)
+  reading_known f letter e k = (reading_of f e).2 ∙ ap (λ o. lettered layout o f) (known (named f.letter) k)
+    where
+      known : (o : Option L) → Ok letter ≡ letter_or_refusal o → o ≡ Some letter
+      known None k = let z : ◌≡◌ {A = ℕ} 0 1 = cc k in absurd (omega arith)
+      known (Some l) k = ap (λ r. result_ok r) (sym k)
+
+  -- its byte is no letter
+  pub reading_unknown : (f : Fields) (refusal : Refusal) → Some f ≡ cond (eqb (length bs) 64) (Some (fields bs)) None →
+      Err refusal ≡ letter_or_refusal (named f.letter) → (reading named layout bs ≡ refused 2) × (refusal ≡ UnknownLetter)
+  reading_unknown f refusal e k =
+      let none = unknown (named f.letter) k in
+      ((reading_of f e).2 ∙ ap (λ o. lettered layout o f) none.0, none.1)
+    where
+      unknown : (o : Option L) → Err refusal ≡ letter_or_refusal o → (o ≡ None) × (refusal ≡ UnknownLetter)
+      unknown None k = (refl, cc k)
+      unknown (Some l) k = let z : ◌≡◌ {A = ℕ} 0 1 = cc k in absurd (omega arith)
 
   lettered_granted : (o : Option L) (letter : L) (f g : Fields) → granted (letter, f) ≡ lettered layout o g →
       (o ≡ Some letter) × (f ≡ g) × (unnamed_zero (layout letter) f ≡ true)

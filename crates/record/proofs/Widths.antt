@@ -1,8 +1,7 @@
 -- A record that is put together has the fields that it was made of. Assumes nothing.
-use Rattle.std.proofs.Common.{◌≡◌, ℕ, ◌+◌, ◌<◌, List, [], ◌∷◌, ◌++◌, length, get_or, take, drop, sym, refl, ap, ◌∙◌, append_assoc, arith, length-append, take_at, drop_at}
+use Rattle.std.proofs.Common.{◌≡◌, ℕ, ◌+◌, List, [], ◌∷◌, ◌++◌, length, take, drop, sym, refl, ap, ◌∙◌, append_assoc, arith, length-append, take_at, drop_at}
 use lib.Seq.{drop-append-add}
 use Rattle.std.specs.List.{flat_map, AllByRecursion}
-use Rattle.std.proofs.lemmas.List.{flat_map_more, take_more}
 use Rattle.terms.specs.declared.calls.BondLots.{BondLots}
 use Rattle.record.specs.Bytes.{value, bytes_of, part}
 use Rattle.record.specs.Fields.{entry_at, entry_bytes, fields, laid_out}
@@ -63,9 +62,3 @@ fields_back f h long all =
     four (a ∷ b ∷ c ∷ []) l h = absurd (omega arith)
     four (a ∷ b ∷ c ∷ d ∷ []) l h = entries_back a b c d h.0 h.1.0 h.1.1.0 h.1.1.1.0 (flat_map entry_bytes (a ∷ b ∷ c ∷ d ∷ [])) refl
     four (a ∷ b ∷ c ∷ d ∷ e ∷ es) l h = absurd (omega arith)
-
--- one more entry behind those written
-pub entry_more : (h t t' : List ℕ) (es : List BondLots) (i : ℕ) (d : BondLots) → i < length es → t ≡ h ++ flat_map entry_bytes (take i es) →
-    t' ≡ t ++ entry_bytes (get_or es i d) → t' ≡ h ++ flat_map entry_bytes (take (i + 1) es)
-entry_more h t t' es i d l e e' =
-    e' ∙ ap (λ x. x ++ entry_bytes (get_or es i d)) e ∙ flat_map_more entry_bytes h (take i es) (get_or es i d) ∙ ap (λ xs. h ++ flat_map entry_bytes xs) (sym (take_more es i d l))

@@ -1,8 +1,10 @@
 -- What calls and rows share in being read: the length, the letter, the fields that are zero. Assumes nothing.
-use Rattle.std.specs.Prelude.{ℕ, Bool, cond, not, ◌&&◌, ◌||◌, List, [], ◌∷◌, length, drop, replicate, Some, None, Option, ◌==◌}
+use Rattle.std.specs.Prelude.{ℕ, Bool, cond, not, ◌&&◌, ◌||◌, List, [], ◌∷◌, length, drop, replicate, Some, None, Option, Result, ok_or, ◌==◌}
 use Rattle.terms.specs.Answers.{Answer, refused, granted}
 use Rattle.terms.specs.Codes.{each, used}
 use Rattle.terms.specs.declared.calls.BondLots.{BondLots}
+use Rattle.terms.specs.declared.refusals.Refusal.{Refusal}
+use Rattle.terms.specs.declared.refusals.Refusal.TheVariants.{UnknownLetter}
 use Rattle.record.specs.Fields.{fields}
 use Rattle.record.specs.declared.fields.Fields.{Fields}
 use Rattle.record.specs.declared.tables.Layout.{Layout}
@@ -16,6 +18,10 @@ layout mark minute account lots second entries =
 abbrev pub lettered_by : {L : Type 0} → List (ℕ × L) → ℕ → Option L
 lettered_by [] b = None
 lettered_by (p ∷ ps) b = cond (b == p.0) (Some p.1) (lettered_by ps b)
+
+-- What a byte is read as that names this letter, or none.
+abbrev pub letter_or_refusal : {L : Type 0} → Option L → Result L Refusal
+letter_or_refusal named = ok_or named UnknownLetter
 
 -- A field is zero, unless it is named.
 abbrev pub zero_unless : Bool → ℕ → Bool

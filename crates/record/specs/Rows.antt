@@ -24,6 +24,12 @@ row_letters = (68, by.Declared) ∷ (85, by.Undeclared) ∷ (86, by.Virtual) ∷
 abbrev pub row_letter : ℕ → Option RowLetter
 row_letter b = lettered_by row_letters b
 
+-- The letter of a class.
+abbrev pub class_letter : Class → RowLetter
+class_letter Declared = by.Declared
+class_letter Undeclared = by.Undeclared
+class_letter Virtual = by.Virtual
+
 -- What each letter names.
 abbrev pub row_layout : RowLetter → Layout
 row_layout by.Declared = layout false false true true true 0

@@ -1,50 +1,57 @@
 // Calls as records.
 ghost use Rattle.std.specs.Prelude.{◌≡◌, IfSome, IfOk, Some};
 ghost use Rattle.terms.specs.Answers.{answered, granted};
-ghost use Rattle.record.specs.Calls.{call_layout, call_letter, call_from, call_fields, call_bytes, read_call};
+ghost use Rattle.record.specs.Calls.{call_layout, call_letter, call_from, call_fields, declared_fields, call_bytes, read_call};
+ghost use Rattle.record.specs.Layouts.{letter_or_refusal};
 
 use crate::fields::Fields;
-use crate::layouts::{Letter, field_values, names_lots, no_entries, read_by};
+use crate::layouts::{Letter, read_by};
 use crate::letters::CallLetter;
 use crate::tables::Layout;
 use crate::writes::record_of;
 use terms::calls::Call;
 use terms::refusals::Refusal;
 
+impl TryFrom<u8> for CallLetter {
+    type Error = Refusal;
+
+    ghost try_from_gives = { λ b r. r ≡ letter_or_refusal (call_letter b) };
+
+    fn try_from(b: u8) -> Result<CallLetter, Refusal> {
+        match b {
+            b'T' => Ok(CallLetter::Trade),
+            b'B' => Ok(CallLetter::DeclarePurchase),
+            b'S' => Ok(CallLetter::DeclareSale),
+            b'W' => Ok(CallLetter::Withdraw),
+            b'O' => Ok(CallLetter::OpenTrial),
+            b'K' => Ok(CallLetter::KeepTrial),
+            b'X' => Ok(CallLetter::DropTrial),
+            b'R' => Ok(CallLetter::Draw),
+            b'N' => Ok(CallLetter::NextDay),
+            b'E' => Ok(CallLetter::LegResult),
+            _ => Err(Refusal::UnknownLetter),
+        }
+    }
+}
+
 impl Letter for CallLetter {
     ghost named = { call_letter };
 
     ghost laid = { call_layout };
 
-    fn of_byte(b: u8) -> Option<CallLetter> {
-        let letter = match b {
-            b'T' => CallLetter::Trade,
-            b'B' => CallLetter::DeclarePurchase,
-            b'S' => CallLetter::DeclareSale,
-            b'W' => CallLetter::Withdraw,
-            b'O' => CallLetter::OpenTrial,
-            b'K' => CallLetter::KeepTrial,
-            b'X' => CallLetter::DropTrial,
-            b'R' => CallLetter::Draw,
-            b'N' => CallLetter::NextDay,
-            b'E' => CallLetter::LegResult,
-            _ => return None,
-        };
-        Some(letter)
-    }
-
     fn layout(&self) -> Layout {
-        let none = names_lots(false);
         let declared = Layout {
             minute: true,
             account: true,
-            ..names_lots(true)
+            lots: true,
+            ..Layout::default()
         };
         match self {
             CallLetter::Trade => Layout {
                 account: true,
+                lots: true,
                 second: true,
-                ..names_lots(true)
+                ..Layout::default()
             },
             CallLetter::DeclarePurchase => declared,
             CallLetter::DeclareSale => Layout {
@@ -57,13 +64,19 @@ impl Letter for CallLetter {
             },
             CallLetter::LegResult => Layout {
                 mark: true,
+                lots: true,
                 second: true,
-                ..names_lots(true)
+                ..Layout::default()
             },
-            CallLetter::OpenTrial | CallLetter::KeepTrial | CallLetter::DropTrial => none,
-            CallLetter::Draw | CallLetter::NextDay => none,
+            CallLetter::OpenTrial
+            | CallLetter::KeepTrial
+            | CallLetter::DropTrial
+            | CallLetter::Draw
+            | CallLetter::NextDay => Layout::default(),
         }
     }
+
+    ghost reads_named = { λ b r h. h };
 }
 
 impl CallLetter {
@@ -82,15 +95,12 @@ impl CallLetter {
                 account: f.account,
                 lots: f.lots,
             },
-            CallLetter::DeclareSale => {
-                let bonds = f.entries;
-                Call::DeclareSale {
-                    minute: f.minute,
-                    account: f.account,
-                    lots: f.lots,
-                    bonds,
-                }
-            }
+            CallLetter::DeclareSale => Call::DeclareSale {
+                minute: f.minute,
+                account: f.account,
+                lots: f.lots,
+                bonds: f.entries,
+            },
             CallLetter::Withdraw => Call::Withdraw {
                 minute: f.minute,
                 account: f.account,
@@ -109,40 +119,77 @@ impl CallLetter {
     }
 }
 
-// The fields of a call's record.
-fn call_fields(call: &Call) -> Option<Fields>
-    ensures { result ≡ call_fields call.now }
+// The fields of a declaration's or a withdrawal's record.
+fn declared_fields(call: &Call) -> Option<Fields>
+    ensures { result ≡ declared_fields call.now }
 {
-    let none = no_entries();
     let fields = match *call {
-        Call::Trade {
-            buyer,
-            seller,
-            lots,
-        } => field_values(b'T', 0, 0, buyer, lots, seller, none),
         Call::DeclarePurchase {
             minute,
             account,
             lots,
-        } => field_values(b'B', 0, minute, account, lots, 0, none),
+        } => Fields {
+            minute,
+            account,
+            lots,
+            ..Fields::lettered(CallLetter::DeclarePurchase as u8)
+        },
         Call::DeclareSale {
             minute,
             account,
             lots,
             bonds,
-        } => field_values(b'S', 0, minute, account, lots, 0, bonds),
-        Call::Withdraw { minute, account } => field_values(b'W', 0, minute, account, 0, 0, none),
-        Call::OpenTrial => field_values(b'O', 0, 0, 0, 0, 0, none),
-        Call::KeepTrial => field_values(b'K', 0, 0, 0, 0, 0, none),
-        Call::DropTrial => field_values(b'X', 0, 0, 0, 0, 0, none),
-        Call::Draw => field_values(b'R', 0, 0, 0, 0, 0, none),
-        Call::NextDay => field_values(b'N', 0, 0, 0, 0, 0, none),
+        } => Fields {
+            minute,
+            account,
+            lots,
+            entries: bonds,
+            ..Fields::lettered(CallLetter::DeclareSale as u8)
+        },
+        Call::Withdraw { minute, account } => Fields {
+            minute,
+            account,
+            ..Fields::lettered(CallLetter::Withdraw as u8)
+        },
+        _ => return None,
+    };
+    Some(fields)
+}
+
+// The fields of a call's record.
+fn call_fields(call: &Call) -> Option<Fields>
+    ensures { result ≡ call_fields call.now }
+{
+    let fields = match *call {
+        Call::Trade {
+            buyer,
+            seller,
+            lots,
+        } => Fields {
+            account: buyer,
+            lots,
+            second: seller,
+            ..Fields::lettered(CallLetter::Trade as u8)
+        },
+        Call::OpenTrial => Fields::lettered(CallLetter::OpenTrial as u8),
+        Call::KeepTrial => Fields::lettered(CallLetter::KeepTrial as u8),
+        Call::DropTrial => Fields::lettered(CallLetter::DropTrial as u8),
+        Call::Draw => Fields::lettered(CallLetter::Draw as u8),
+        Call::NextDay => Fields::lettered(CallLetter::NextDay as u8),
         Call::LegResult {
             leg,
             mark,
             unfinished,
-        } => field_values(b'E', mark, 0, 0, unfinished, leg, none),
-        Call::Preview { day: _ } => return None,
+        } => Fields {
+            mark,
+            lots: unfinished,
+            second: leg,
+            ..Fields::lettered(CallLetter::LegResult as u8)
+        },
+        Call::DeclarePurchase { .. } | Call::DeclareSale { .. } | Call::Withdraw { .. } => {
+            return declared_fields(call);
+        }
+        Call::Preview { .. } => return None,
     };
     Some(fields)
 }
@@ -162,8 +209,5 @@ pub fn write_call(call: &Call) -> Option<[u8; 64]>
     ensures bytes { result ≡ call_bytes call.now }
     ensures back { IfSome result (λ bytes. read_call bytes ≡ granted call.now) }
 {
-    match call_fields(call) {
-        Some(fields) => Some(record_of(&fields)),
-        None => None,
-    }
+    Some(record_of(&call_fields(call)?))
 }

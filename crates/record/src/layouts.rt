@@ -1,27 +1,23 @@
 // Which fields a letter names, and the checks that calls and rows share.
-ghost use Rattle.std.specs.Prelude.{◌≡◌, ℕ, false, not, drop, IfOk, Option};
+ghost use Rattle.std.specs.Prelude.{◌≡◌, ℕ, not, drop, IfOk, Option, Result};
 ghost use Rattle.terms.specs.Answers.{answered};
 ghost use Rattle.terms.specs.Codes.{each, used};
 ghost use Rattle.record.specs.Fields.{laid_out};
-ghost use Rattle.record.specs.Layouts.{field_values, layout, no_entries, reading, unnamed_zero, zero_unless};
+ghost use Rattle.record.specs.Layouts.{letter_or_refusal, reading, unnamed_zero, zero_unless};
+ghost use Rattle.terms.specs.declared.refusals.Refusal.{Refusal};
 ghost use Rattle.record.specs.declared.tables.Layout.{Layout};
 
 use crate::fields::Fields;
 use crate::reads::fields_of;
 use crate::tables::Layout;
-use terms::calls::{BondCode, BondLots};
+use terms::calls::BondLots;
 use terms::refusals::Refusal;
 
 // Whether no entry from a place on is used.
 fn unused_from(entries: &[BondLots; 4], from: usize) -> bool
     ensures { result ≡ each (λ e. not (used e)) (drop from entries.now) }
 {
-    for i in from..4 {
-        if entries[i].is_used() {
-            return false;
-        }
-    }
-    true
+    entries.iter().skip(from).all(|e| !e.is_used())
 }
 
 // Whether a field is zero, unless it is named.
@@ -45,64 +41,17 @@ impl Layout {
     }
 }
 
-// Four entries that are not used.
-pub(crate) fn no_entries() -> [BondLots; 4]
-    ensures { result ≡ no_entries }
-{
-    [BondLots {
-        bond: BondCode { bytes: [0; 8] },
-        lots: 0,
-    }; 4]
-}
-
-// The fields of a record.
-pub(crate) fn field_values(
-    letter: u8,
-    mark: u8,
-    minute: u16,
-    account: u32,
-    lots: u32,
-    second: u32,
-    entries: [BondLots; 4],
-) -> Fields
-    ensures { result ≡ field_values letter mark minute account lots second entries }
-{
-    Fields {
-        letter,
-        mark,
-        minute,
-        account,
-        lots,
-        second,
-        entries,
-    }
-}
-
-// A layout that names the lots, or nothing.
-pub(crate) fn names_lots(lots: bool) -> Layout
-    ensures { result ≡ layout false false false lots false 0 }
-{
-    Layout {
-        mark: false,
-        minute: false,
-        account: false,
-        lots,
-        second: false,
-        entries: 0,
-    }
-}
-
 // The letters of a kind of record, each with its layout.
-pub(crate) trait Letter: Sized {
+pub(crate) trait Letter: TryFrom<u8, Error = Refusal> {
     ghost named: { ℕ → Option Self };
 
     ghost laid: { Self → Layout };
 
-    fn of_byte(b: u8) -> Option<Self>
-        ensures { result ≡ named b };
-
     fn layout(&self) -> Layout
         ensures { result ≡ laid self.now };
+
+    // A byte is read as the letter that it names.
+    ghost reads_named: { (b : ℕ) (r : Result Self Refusal) → Self.try_from_gives b r → r ≡ letter_or_refusal (named b) };
 }
 
 // The letter and the fields of a record: 1, 2 or 3 where it is none of the kind.
@@ -110,12 +59,8 @@ pub(crate) fn read_by<L: Letter + Drop>(bytes: &[u8]) -> Result<(L, Fields), Ref
     ensures answer { answered result ≡ reading L.named L.laid bytes.now }
     ensures back { IfOk result (λ p. laid_out p.1 ≡ bytes.now) }
 {
-    let Some(fields) = fields_of(bytes) else {
-        return Err(Refusal::WrongLength);
-    };
-    let Some(letter) = L::of_byte(fields.letter) else {
-        return Err(Refusal::UnknownLetter);
-    };
+    let fields = fields_of(bytes).ok_or(Refusal::WrongLength)?;
+    let letter = L::try_from(fields.letter)?;
     if !letter.layout().is_kept(&fields) {
         return Err(Refusal::BadField);
     }

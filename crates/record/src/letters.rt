@@ -1,23 +1,23 @@
-// The letters of calls and of rows.
-#[derive(Clone, Copy)]
+// The letters of calls and of rows, each with its byte.
+#[derive(Clone, Copy, Debug, PartialEq, Eq)]
 pub(crate) enum CallLetter {
-    Trade,
-    DeclarePurchase,
-    DeclareSale,
-    Withdraw,
-    OpenTrial,
-    KeepTrial,
-    DropTrial,
-    Draw,
-    NextDay,
-    LegResult,
+    Trade = b'T' as isize,
+    DeclarePurchase = b'B' as isize,
+    DeclareSale = b'S' as isize,
+    Withdraw = b'W' as isize,
+    OpenTrial = b'O' as isize,
+    KeepTrial = b'K' as isize,
+    DropTrial = b'X' as isize,
+    Draw = b'R' as isize,
+    NextDay = b'N' as isize,
+    LegResult = b'E' as isize,
 }
 
-#[derive(Clone, Copy)]
+#[derive(Clone, Copy, Debug, PartialEq, Eq)]
 pub(crate) enum RowLetter {
-    Declared,
-    Undeclared,
-    Virtual,
-    Leg,
-    Refused,
+    Declared = b'D' as isize,
+    Undeclared = b'U' as isize,
+    Virtual = b'V' as isize,
+    Leg = b'L' as isize,
+    Refused = b'Z' as isize,
 }

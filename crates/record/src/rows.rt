@@ -1,11 +1,11 @@
 // Rows as records.
 ghost use Rattle.std.specs.Prelude.{◌≡◌, IfOk, if◌then◌else◌, nat_eq};
 ghost use Rattle.terms.specs.Answers.{answered, granted, refused};
-ghost use Rattle.terms.specs.Selection.{letter};
-ghost use Rattle.record.specs.Rows.{row_layout, row_letter, class_row, leg_from, row_with, leg_entries, row_fields, row_bytes, row_lots, read_row};
+ghost use Rattle.record.specs.Rows.{row_layout, row_letter, class_letter, class_row, leg_from, row_with, leg_entries, row_fields, row_bytes, row_lots, read_row};
+ghost use Rattle.record.specs.Layouts.{letter_or_refusal};
 
 use crate::fields::Fields;
-use crate::layouts::{Letter, field_values, names_lots, no_entries, read_by};
+use crate::layouts::{Letter, read_by};
 use crate::letters::RowLetter;
 use crate::tables::Layout;
 use crate::writes::record_of;
@@ -13,36 +13,58 @@ use terms::calls::{BondCode, BondLots};
 use terms::refusals::Refusal;
 use terms::rows::{Class, Row};
 
+impl TryFrom<u8> for RowLetter {
+    type Error = Refusal;
+
+    ghost try_from_gives = { λ b r. r ≡ letter_or_refusal (row_letter b) };
+
+    fn try_from(b: u8) -> Result<RowLetter, Refusal> {
+        match b {
+            b'D' => Ok(RowLetter::Declared),
+            b'U' => Ok(RowLetter::Undeclared),
+            b'V' => Ok(RowLetter::Virtual),
+            b'L' => Ok(RowLetter::Leg),
+            b'Z' => Ok(RowLetter::Refused),
+            _ => Err(Refusal::UnknownLetter),
+        }
+    }
+}
+
+impl From<Class> for RowLetter {
+    ghost from_gives = { λ class letter. letter ≡ class_letter class };
+
+    fn from(class: Class) -> RowLetter {
+        match class {
+            Class::Declared => RowLetter::Declared,
+            Class::Undeclared => RowLetter::Undeclared,
+            Class::Virtual => RowLetter::Virtual,
+        }
+    }
+}
+
 impl Letter for RowLetter {
     ghost named = { row_letter };
 
     ghost laid = { row_layout };
 
-    fn of_byte(b: u8) -> Option<RowLetter> {
-        let letter = match b {
-            b'D' => RowLetter::Declared,
-            b'U' => RowLetter::Undeclared,
-            b'V' => RowLetter::Virtual,
-            b'L' => RowLetter::Leg,
-            b'Z' => RowLetter::Refused,
-            _ => return None,
-        };
-        Some(letter)
-    }
-
     fn layout(&self) -> Layout {
-        let lots = names_lots(true);
+        let number = Layout {
+            lots: true,
+            ..Layout::default()
+        };
         let two = Layout {
             account: true,
             second: true,
-            ..lots
+            ..number
         };
         match self {
             RowLetter::Declared | RowLetter::Undeclared | RowLetter::Virtual => two,
             RowLetter::Leg => Layout { entries: 1, ..two },
-            RowLetter::Refused => lots,
+            RowLetter::Refused => number,
         }
     }
+
+    ghost reads_named = { λ b r h. h };
 }
 
 // The row of lots of a class.
@@ -97,25 +119,15 @@ impl RowLetter {
 }
 
 // The entries of a leg's record.
+#[tactic(auto, using(crate::proofs::Blank::blank_entries))]
 fn leg_entries(lots: u32, bond: Option<BondCode>) -> [BondLots; 4]
     ensures { result ≡ leg_entries lots bond }
 {
-    let [first, second, third, fourth] = no_entries();
-    match bond {
-        Some(bond) => [BondLots { bond, lots }, second, third, fourth],
-        None => [first, second, third, fourth],
+    let mut entries = <[BondLots; 4]>::default();
+    if let Some(bond) = bond {
+        entries[0] = BondLots { bond, lots };
     }
-}
-
-// The letter of a class.
-fn class_letter(class: Class) -> u8
-    ensures { result ≡ letter class }
-{
-    match class {
-        Class::Declared => b'D',
-        Class::Undeclared => b'U',
-        Class::Virtual => b'V',
-    }
+    entries
 }
 
 // The fields of a row's record.
@@ -128,14 +140,28 @@ fn row_fields(row: &Row) -> Fields
             account,
             day,
             lots,
-        } => field_values(class_letter(class), 0, 0, account, lots, day, no_entries()),
+        } => Fields {
+            account,
+            lots,
+            second: day,
+            ..Fields::lettered(RowLetter::from(class) as u8)
+        },
         Row::Leg {
             seller,
             buyer,
             lots,
             bond,
-        } => field_values(b'L', 0, 0, seller, lots, buyer, leg_entries(lots, bond)),
-        Row::Refused { number } => field_values(b'Z', 0, 0, 0, number, 0, no_entries()),
+        } => Fields {
+            account: seller,
+            lots,
+            second: buyer,
+            entries: leg_entries(lots, bond),
+            ..Fields::lettered(RowLetter::Leg as u8)
+        },
+        Row::Refused { number } => Fields {
+            lots: number,
+            ..Fields::lettered(RowLetter::Refused as u8)
+        },
     }
 }
 

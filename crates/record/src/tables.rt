@@ -1,5 +1,5 @@
 // The fields that a letter names. All others are zero.
-#[derive(Clone, Copy)]
+#[derive(Clone, Copy, Debug, Default, PartialEq, Eq)]
 pub(crate) struct Layout {
     pub mark: bool,
     pub minute: bool,

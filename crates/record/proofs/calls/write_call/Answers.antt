@@ -1,14 +1,9 @@
-use Rattle.std.proofs.Common.{◌≡◌, length, Some, sym, ap, ◌∙◌, rules}
-use Rattle.std.specs.Option.{option_map}
-use Rattle.record.specs.Fields.{laid_out}
+use Rattle.std.proofs.Common.{◌≡◌, length, sym, ◌∙◌, rules}
 use Rattle.record.proofs.CallTrip.{call_read}
 use Rattle.record.proofs.calls.write_call.Goals as goal
 
-pub returns-in-Some : goal.returns-in-Some
-returns-in-Some c =
+pub returns-clause-back : goal.returns-clause-back
+returns-clause-back c =
     let long : length c.record_of.result ≡ 64 = search rules in
-    let e = c.in-Some.ensures in
-    record {
-      bytes = ap Some c.record_of.ensures.bytes ∙ ap (option_map laid_out) e;
-      back = call_read c.args.call.now c.in-Some.fields c.record_of.result (sym e) long c.record_of.ensures.back;
-    }
+    let fields = sym c.call_fields.ensures ∙ c.in_ok-call_fields.was in
+    call_read c.args.call.now c.in_ok-call_fields.field-0 c.record_of.result fields long c.record_of.ensures.back

@@ -1,19 +1,17 @@
-use Rattle.std.proofs.Common.{◌<◌, ◌≤◌, not, length, sym, ap, ◌∙◌, rules}
-use Rattle.terms.specs.Codes.{used}
-use Rattle.terms.proofs.Each.{each_more, each_fails, each_all}
+use Rattle.std.proofs.Common.{not, ◌&&◌, drop, refl, ◌∙◌, rules, tests}
+use Rattle.std.proofs.lemmas.Iterator.{YieldsList-from_slice}
+use Rattle.std.proofs.lemmas.Iterator.Adapters.{YieldsList-from_skip}
+use Rattle.std.proofs.lemmas.Iterator.Search.{all_from_yields_List}
+use Rattle.std.proofs.lemmas.List.Recursion.{same_from_clauses}
+use Rattle.std.specs.List.{list_all}
+use Rattle.terms.specs.Codes.{each, used}
+use Rattle.terms.specs.declared.calls.BondLots.{BondLots}
 use Rattle.record.proofs.layouts.unused_from.Goals as goal
-
-pub returns-then-is_used : goal.returns-then-is_used
-returns-then-is_used c =
-    let l : c.loop-i.i < length c.args.entries.now = search rules in
-    sym (each_fails (λ e. not (used e)) c.args.entries.now c.loop-i.i _ l (ap not (sym c.is_used.ensures ∙ c.if-is_used.true)) c.loop-i.invariant)
-
-pub loop-i-preserved : goal.loop-i-preserved
-loop-i-preserved c =
-    let l : c.loop-i.i < length c.args.entries.now = search rules in
-    each_more (λ e. not (used e)) c.args.entries.now c.loop-i.i _ l (ap not (sym c.is_used.ensures ∙ c.if-is_used.false)) c.loop-i.invariant
 
 pub returns : goal.returns
 returns c =
-    let l : length c.args.entries.now ≤ c.loop-i.i = search rules in
-    sym (each_all (λ e. not (used e)) c.args.entries.now c.loop-i.i l c.loop-i.invariant)
+    let es = c.args.entries.now in
+    let unused = λ (e : BondLots). not (used e) in
+    let chain = YieldsList-from_skip c.args.from (YieldsList-from_slice es cc) c.skip.ensures.count in
+    all_from_yields_List unused _ _ c.all.result c.all.ensures.ran chain (λ x b q k. search (rules, tests))
+    ∙ same_from_clauses (list_all unused) (each unused) (λ e rest. unused e && rest) refl (λ _ _. refl) (λ _ _. refl) (drop c.args.from es)
