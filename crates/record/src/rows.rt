@@ -84,19 +84,14 @@ fn leg(f: &Fields) -> Result<Row, Refusal>
     ensures { answered result ≡ leg_from f.now }
 {
     let entry = f.entries[0];
-    let bond = if entry.is_used() {
-        if entry.lots != f.lots {
-            return Err(Refusal::BadField);
-        }
-        Some(entry.bond)
-    } else {
-        None
-    };
+    if entry.is_used() && entry.lots != f.lots {
+        return Err(Refusal::BadField);
+    }
     Ok(Row::Leg {
         seller: f.account,
         buyer: f.second,
         lots: f.lots,
-        bond,
+        bond: entry.is_used().then_some(entry.bond),
     })
 }
 
