@@ -6,7 +6,7 @@ use crate::calendars::Calendar;
 use crate::lists::DayList;
 
 // The days of a list are business days, up to day 100,000.
-#[derive(Clone, Copy)]
+#[derive(Clone, Copy, Debug, PartialEq, Eq)]
 pub struct Listed<L> {
     pub days: L,
 }

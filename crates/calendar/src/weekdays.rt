@@ -5,7 +5,7 @@ ghost use Rattle.std.proofs.Common.{rules};
 use crate::calendars::Calendar;
 
 // Monday to Friday.
-#[derive(Clone, Copy)]
+#[derive(Clone, Copy, Debug, PartialEq, Eq)]
 pub struct Weekdays;
 
 impl Calendar for Weekdays {

@@ -38,6 +38,7 @@ pub(crate) fn records(heap: Global, bytes: &[u8]) -> Result<Vec<Result<Record, F
 {
     let mut all = Vec::new(heap);
     let mut rest = bytes;
+    // not by chunks: the rest that is handed on begins at the next record
     while !rest.is_empty() {
         let (found, behind) = first(rest);
         all.push(found)?;

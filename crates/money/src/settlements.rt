@@ -50,6 +50,7 @@ pub fn settle(
         performance: performance(unfinished.lots, terms.price, terms.ratio),
         share: terms.passed_on(unfinished.lots),
     };
+    // each case has payments of its own, so that a match says it most plainly
     match failed {
         Failed::Nobody => sums.done(),
         Failed::Seller => sums.failed_seller(),

@@ -11,7 +11,7 @@ use crate::rules::OddLots;
 use crate::running::RunningRule;
 use terms::refusals::Refusal;
 
-// A rule of the house.
+// A rule of the house, as a value: hosts choose it by its case.
 #[derive(Clone, Copy, Debug, PartialEq, Eq)]
 pub enum HouseRule {
     Running,

@@ -1,10 +1,10 @@
 -- Calls and their records undo each other. Assumes nothing.
 use Rattle.std.proofs.Common.{◌≡◌, ℕ, cond, not, eqb, List, length, drop, replicate, Some, sym, refl, ap, ◌∙◌, subst, arith}
-use Rattle.std.specs.List.{AllByRecursion}
+use Rattle.std.specs.List.{AllByRecursion, list_all}
 use Rattle.std.proofs.lemmas.List.{drop_all}
 use Rattle.std.proofs.lemmas.Bool.{cond-true, eq-eqb}
 use Rattle.terms.specs.Answers.{refused, granted}
-use Rattle.terms.specs.Codes.{each, used}
+use Rattle.terms.specs.Codes.{used}
 use Rattle.terms.specs.declared.calls.Call.{Call}
 use Rattle.terms.specs.declared.calls.Call.TheVariants.{Trade, DeclarePurchase, DeclareSale, Withdraw, OpenTrial, KeepTrial, DropTrial, Preview, Draw, LegResult, NextDay}
 use Rattle.record.specs.Calls.{call_letters, call_letter, call_layout, call_from, call_answer, call_fields, read_call}
@@ -50,7 +50,7 @@ call_kept bs letter f r =
     let long : length f.entries ≡ 4 = ap (λ g. length g.entries) r.same in
     let wide = subst (λ g. AllByRecursion Code g.entries) (sym r.same) (codes bs r.long) in
     known letter f (sym byte) clear
-    (λ e. ap (λ n. replicate n no_entry) (sym long) ∙ unused_all f.entries wide (sym (ap (each (λ x. not (used x))) e) ∙ clear.entries))
+    (λ e. ap (λ n. replicate n no_entry) (sym long) ∙ unused_all f.entries wide (sym (ap (list_all (λ x. not (used x))) e) ∙ clear.entries))
 
 -- the fields of a call are read as that call
 taken : {call : Call} {f g : Fields} → Some g ≡ Some f → call_answer (lettered call_layout (call_letter g.letter) g) ≡ granted call →
@@ -64,7 +64,7 @@ as_call (DeclareSale m a n bonds) f e l =
     let g = field_values 83 0 m a n 0 bonds in
     let p : g ≡ f = cc e in
     let none = drop_all 4 bonds (omega (arith, ap (λ x. length x.entries) p)) in
-    taken e (ap (λ es. call_answer (cond (each (λ x. not (used x)) es) (granted (by.DeclareSale, g)) (refused 3))) none)
+    taken e (ap (λ es. call_answer (cond (list_all (λ x. not (used x)) es) (granted (by.DeclareSale, g)) (refused 3))) none)
 as_call (Withdraw m a) f e l = taken e refl
 as_call OpenTrial f e l = taken e refl
 as_call KeepTrial f e l = taken e refl

@@ -1,8 +1,8 @@
 -- Fields that are not named are zero, as equations. Assumes nothing.
 use Rattle.std.proofs.Common.{◌≡◌, ℕ, ◌+◌, ◌≤◌, Bool, true, false, not, ◌&&◌, ◌||◌, eqb, List, [], ◌∷◌, length, drop, replicate, Some, sym, refl, ap, ◌∙◌, inl, inr, arith, length-drop, length-take}
-use Rattle.std.specs.List.{AllByRecursion}
+use Rattle.std.specs.List.{AllByRecursion, list_all}
 use Rattle.std.proofs.lemmas.Bool.{cases_Bool, cond-true, cond-false, eqb-true, and_parts, or_parts, not-true, not-false}
-use Rattle.terms.specs.Codes.{each, used}
+use Rattle.terms.specs.Codes.{used}
 use Rattle.terms.specs.declared.calls.BondLots.{BondLots}
 use Rattle.record.specs.Bytes.{part}
 use Rattle.record.specs.Fields.{fields}
@@ -30,14 +30,14 @@ pub record Clear (l : Layout) (f : Fields) : Type 0 where
   pub account : l.account ≡ false → 0 ≡ f.account
   pub lots : l.lots ≡ false → 0 ≡ f.lots
   pub second : l.second ≡ false → 0 ≡ f.second
-  pub entries : each (λ e. not (used e)) (drop l.entries f.entries) ≡ true
+  pub entries : list_all (λ e. not (used e)) (drop l.entries f.entries) ≡ true
 
 unnamed : (named : Bool) (n : ℕ) → zero_unless named n ≡ true → named ≡ false → 0 ≡ n
 unnamed named n h e = sym (eqb-true n 0 (sym (ap (λ t. t || eqb n 0) e) ∙ h))
 
 pub clear_parts : (l : Layout) (f : Fields) → unnamed_zero l f ≡ true → Clear l f
 clear_parts l f h =
-    let last = each (λ e. not (used e)) (drop l.entries f.entries) in
+    let last = list_all (λ e. not (used e)) (drop l.entries f.entries) in
     let t₅ = zero_unless l.second f.second && last in
     let t₄ = zero_unless l.lots f.lots && t₅ in
     let t₃ = zero_unless l.account f.account && t₄ in
@@ -57,10 +57,10 @@ clear_parts l f h =
     }
 
 -- bytes that are all zero
-zeros : (bs : List ℕ) → each (λ b. eqb b 0) bs ≡ true → replicate (length bs) 0 ≡ bs
+zeros : (bs : List ℕ) → list_all (λ b. eqb b 0) bs ≡ true → replicate (length bs) 0 ≡ bs
 zeros [] h = refl
 zeros (b ∷ bs) h =
-    let p = and_parts (eqb b 0) (each (λ x. eqb x 0) bs) h in
+    let p = and_parts (eqb b 0) (list_all (λ x. eqb x 0) bs) h in
     let e = eqb-true b 0 p.0 in
     let r = zeros bs p.1 in
     λ i. sym e i ∷ r i
@@ -70,15 +70,15 @@ Code e = length e.bond.bytes ≡ 8
 
 pub unused_entry : (e : BondLots) → Code e → used e ≡ false → no_entry ≡ e
 unused_entry e w h =
-    let p = or_parts (not (eqb e.lots 0)) (not (each (λ b. eqb b 0) e.bond.bytes)) h in
+    let p = or_parts (not (eqb e.lots 0)) (not (list_all (λ b. eqb b 0) e.bond.bytes)) h in
     let lots = eqb-true e.lots 0 (not-false (eqb e.lots 0) p.0) in
-    let code = ap (λ n. replicate n 0) (sym w) ∙ zeros e.bond.bytes (not-false (each (λ b. eqb b 0) e.bond.bytes) p.1) in
+    let code = ap (λ n. replicate n 0) (sym w) ∙ zeros e.bond.bytes (not-false (list_all (λ b. eqb b 0) e.bond.bytes) p.1) in
     λ i. record { bond = record { bytes = code i }; lots = sym lots i }
 
-pub unused_all : (es : List BondLots) → AllByRecursion Code es → each (λ e. not (used e)) es ≡ true → replicate (length es) no_entry ≡ es
+pub unused_all : (es : List BondLots) → AllByRecursion Code es → list_all (λ e. not (used e)) es ≡ true → replicate (length es) no_entry ≡ es
 unused_all [] w h = refl
 unused_all (e ∷ es) w h =
-    let p = and_parts (not (used e)) (each (λ x. not (used x)) es) h in
+    let p = and_parts (not (used e)) (list_all (λ x. not (used x)) es) h in
     let first = unused_entry e w.0 (not-true (used e) p.0) in
     let rest = unused_all es w.1 p.1 in
     λ i. first i ∷ rest i

@@ -1,11 +1,11 @@
 -- Rows and their records undo each other. Assumes nothing.
 use Rattle.std.proofs.Common.{◌≡◌, ℕ, true, cond, not, ◌||◌, eqb, List, [], ◌∷◌, length, get_or, drop, replicate, IfOk, Some, None, Ok, Err, Result, sym, refl, ap, ◌∙◌, subst, inl, inr, arith, length-drop}
-use Rattle.std.specs.List.{AllByRecursion}
+use Rattle.std.specs.List.{AllByRecursion, list_all}
 use Rattle.std.proofs.ByRecursion.{All-get_or, All-drop}
 use Rattle.std.proofs.lemmas.List.{drop_more}
 use Rattle.std.proofs.lemmas.Bool.{cases_Bool, cond-true, cond-false, eq-eqb, eqb-true}
 use Rattle.terms.specs.Answers.{Answer, refused, granted, answered}
-use Rattle.terms.specs.Codes.{each, used}
+use Rattle.terms.specs.Codes.{used}
 use Rattle.terms.specs.declared.calls.BondLots.{BondLots}
 use Rattle.terms.specs.declared.refusals.Refusal.{Refusal}
 use Rattle.terms.specs.Selection.{letter as class_letter}
@@ -45,11 +45,11 @@ known_from bs letter f r = record {
 }
 
 -- no entry is used
-none_used : (f : Fields) → length f.entries ≡ 4 → AllByRecursion Code f.entries → each (λ e. not (used e)) f.entries ≡ true → no_entries ≡ f.entries
+none_used : (f : Fields) → length f.entries ≡ 4 → AllByRecursion Code f.entries → list_all (λ e. not (used e)) f.entries ≡ true → no_entries ≡ f.entries
 none_used f l w h = ap (λ n. replicate n no_entry) (sym l) ∙ unused_all f.entries w h
 
 -- an entry, then none
-one_entry : (es : List BondLots) → length es ≡ 4 → AllByRecursion Code es → each (λ e. not (used e)) (drop 1 es) ≡ true →
+one_entry : (es : List BondLots) → length es ≡ 4 → AllByRecursion Code es → list_all (λ e. not (used e)) (drop 1 es) ≡ true →
     (get_or es 0 (record { bond = record { bytes = [] }; lots = 0 }) ∷ no_entry ∷ no_entry ∷ no_entry ∷ [] ≡ es)
     × Code (get_or es 0 (record { bond = record { bytes = [] }; lots = 0 }))
 one_entry es l w h =
@@ -133,7 +133,7 @@ as_row (Leg s b n (Some code)) =
     elim (cases_Bool (eqb n 0)) [
       | inl t ↦ cond-true (eqb n 0) (refused 3) (leg_from (row_fields leg)) t ∙ sym (cond-true (eqb n 0) (refused 3) (granted leg) t)
       | inr f ↦
-          let there : used (record { bond = code; lots = n }) ≡ true = ap (λ t. not t || not (each (λ x. eqb x 0) code.bytes)) f in
+          let there : used (record { bond = code; lots = n }) ≡ true = ap (λ t. not t || not (list_all (λ x. eqb x 0) code.bytes)) f in
           cond-false (eqb n 0) (refused 3) (leg_from (row_fields leg)) f
           ∙ cond-true (used (record { bond = code; lots = n })) (cond (eqb n n) (granted leg) (refused 3)) (granted (Leg s b n None)) there ∙ same
           ∙ sym (cond-false (eqb n 0) (refused 3) (granted leg) f)

@@ -1,7 +1,8 @@
 -- What calls and rows share in being read: the length, the letter, the fields that are zero. Assumes nothing.
 use Rattle.std.specs.Prelude.{ℕ, Bool, cond, not, ◌&&◌, ◌||◌, List, [], ◌∷◌, length, drop, replicate, Some, None, Option, Result, ok_or, ◌==◌}
+use Rattle.std.specs.List.{list_all}
 use Rattle.terms.specs.Answers.{Answer, refused, granted}
-use Rattle.terms.specs.Codes.{each, used}
+use Rattle.terms.specs.Codes.{used}
 use Rattle.terms.specs.declared.calls.BondLots.{BondLots}
 use Rattle.terms.specs.declared.refusals.Refusal.{Refusal}
 use Rattle.terms.specs.declared.refusals.Refusal.TheVariants.{UnknownLetter}
@@ -31,7 +32,7 @@ zero_unless named n = named || n == 0
 abbrev pub unnamed_zero : Layout → Fields → Bool
 unnamed_zero l f =
     zero_unless l.mark f.mark && (zero_unless l.minute f.minute && (zero_unless l.account f.account
-    && (zero_unless l.lots f.lots && (zero_unless l.second f.second && each (λ e. not (used e)) (drop l.entries f.entries)))))
+    && (zero_unless l.lots f.lots && (zero_unless l.second f.second && list_all (λ e. not (used e)) (drop l.entries f.entries)))))
 
 -- A record with its letter known, or none of the kind: 2, 3, or the letter and the fields.
 abbrev pub lettered : {L : Type 0} → (L → Layout) → Option L → Fields → Answer (L × Fields)

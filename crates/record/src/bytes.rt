@@ -1,13 +1,13 @@
-// Numbers of bytes, the lowest byte first. The only place where they are put together: by shifts, one function for each width. The library's
-// `from_le_bytes` multiplies instead.
+// Numbers of bytes, the lowest byte first. They are put together by shifts, as hosts do, and nowhere else; the library's `from_le_bytes` multiplies.
 ghost use Rattle.std.specs.Prelude.{◌≡◌};
 ghost use Rattle.record.specs.Bytes.{value};
 
+// Two bytes are the low half of four.
 pub(crate) fn number16(bytes: [u8; 2]) -> u16
     ensures { result ≡ value bytes }
 {
     let [b0, b1] = bytes;
-    u16::from(b0) + (u16::from(b1) << 8)
+    number32([b0, b1, 0, 0]) as u16
 }
 
 pub(crate) fn number32(bytes: [u8; 4]) -> u32

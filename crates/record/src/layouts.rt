@@ -1,7 +1,8 @@
 // Which fields a letter names, and the checks that calls and rows share.
 ghost use Rattle.std.specs.Prelude.{◌≡◌, ℕ, not, drop, IfOk, Option, Result};
+ghost use Rattle.std.specs.List.{list_all};
 ghost use Rattle.terms.specs.Answers.{answered};
-ghost use Rattle.terms.specs.Codes.{each, used};
+ghost use Rattle.terms.specs.Codes.{used};
 ghost use Rattle.record.specs.Fields.{laid_out};
 ghost use Rattle.record.specs.Layouts.{letter_or_refusal, reading, unnamed_zero, zero_unless};
 ghost use Rattle.terms.specs.declared.refusals.Refusal.{Refusal};
@@ -15,7 +16,7 @@ use terms::refusals::Refusal;
 
 // Whether no entry from a place on is used.
 fn unused_from(entries: &[BondLots; 4], from: usize) -> bool
-    ensures { result ≡ each (λ e. not (used e)) (drop from entries.now) }
+    ensures { result ≡ list_all (λ e. not (used e)) (drop from entries.now) }
 {
     entries.iter().skip(from).all(|e| !e.is_used())
 }

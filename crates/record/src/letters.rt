@@ -1,4 +1,4 @@
-// The letters of calls and of rows, each with its byte.
+// The letters of calls and of rows, each with its byte; a discriminant holds it as an `isize`.
 #[derive(Clone, Copy, Debug, PartialEq, Eq)]
 pub(crate) enum CallLetter {
     Trade = b'T' as isize,

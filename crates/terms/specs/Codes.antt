@@ -1,12 +1,8 @@
 -- Bond codes, and the entries of a seller's declaration. Assumes nothing.
-use Rattle.std.specs.Prelude.{ℕ, Bool, not, ◌&&◌, ◌||◌, List, ◌==◌, nat_eq, nat_le}
+use Rattle.std.specs.Prelude.{ℕ, Bool, not, ◌&&◌, ◌||◌, ◌==◌, nat_eq, nat_le}
 use Rattle.std.specs.List.{list_all}
 use Rattle.terms.specs.declared.calls.BondCode.{BondCode}
 use Rattle.terms.specs.declared.calls.BondLots.{BondLots}
-
--- Every element passes a test.
-abbrev pub each : {A : Type 0} → (A → Bool) → List A → Bool
-each p xs = list_all p xs
 
 -- A number lies between two others, both included.
 abbrev pub between : ℕ → ℕ → ℕ → Bool
