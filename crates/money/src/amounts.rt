@@ -22,7 +22,7 @@ impl Terms {
     }
 }
 
-// What a failed side pays as performance sum.
+// What a failed side pays as performance sum. It needs no share, so it is no method of the terms.
 pub fn performance(lots: Lots, price: Price, ratio: Ratio) -> u64
     ensures amount { result ≡ performance lots price ratio }
     ensures small { result ≤ 10 ^ 15 }

@@ -30,7 +30,7 @@ impl fmt::Display for BondLots {
     }
 }
 
-// What both declarations tell.
+// What both declarations tell. Their fields stand apart, as in the calls, of which the law speaks.
 fn write_declaration<W: fmt::Write>(
     f: &mut fmt::Formatter<W>,
     side: &str,
