@@ -47,9 +47,7 @@ fn four_lots() -> Option<u64> {
 
 #[test]
 fn amounts(rt: HostRuntime) -> Result<(), Fail> {
-    let Some(interest) = interest() else {
-        return Err(Fail::new("out of range"));
-    };
+    let interest = interest().ok_or("out of range")?;
     assert_eq!(rt; interest.value(), 47_241_848);
     assert!(rt; four_lots() == Some(4_163_666_739));
     assert!(rt; Price::new(0).is_none());

@@ -27,7 +27,7 @@ fn sale() -> Call {
 fn call_there_and_back(rt: &impl Abort, call: Call, letter: u8) -> Result<(), Fail> {
     let bytes = write_call(&call).ok_or("a call without a record")?;
     assert_eq!(rt; bytes[0], letter);
-    let read = read_call(&bytes).ok().ok_or("refused")?;
+    let read = read_call(&bytes).map_err(|_| "refused")?;
     assert!(rt; read == call);
     let again = write_call(&read).ok_or("a call without a record")?;
     assert!(rt; again == bytes);
@@ -84,7 +84,7 @@ fn every_call(rt: HostRuntime) -> Result<(), Fail> {
 fn row_there_and_back(rt: &impl Abort, row: Row, letter: u8) -> Result<(), Fail> {
     let bytes = write_row(&row);
     assert_eq!(rt; bytes[0], letter);
-    let read = read_row(&bytes).ok().ok_or("refused")?;
+    let read = read_row(&bytes).map_err(|_| "refused")?;
     assert!(rt; read == row);
     assert!(rt; write_row(&read) == bytes);
     Ok(())

@@ -17,7 +17,8 @@ fn found(bytes: &[u8]) -> Result<Record, Fault>
     }
     match read_call(bytes) {
         Err(Refusal::UnknownLetter) => Ok(Record::Row(read_row(bytes)?)),
-        call => Ok(Record::Call(call?)),
+        Ok(call) => Ok(Record::Call(call)),
+        Err(refusal) => Err(refusal.into()),
     }
 }
 

@@ -30,6 +30,7 @@ pub(crate) enum Fault {
     Cut(usize),
 }
 
+// By hand, since each case shows a number that a derive would have to compute.
 impl fmt::Display for Fault {
     fn fmt<W: fmt::Write>(&self, f: &mut fmt::Formatter<W>) -> fmt::Result {
         match *self {

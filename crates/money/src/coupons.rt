@@ -11,9 +11,9 @@ use thiserror::Error;
 // How often a year a bond pays its coupon.
 #[derive(Clone, Copy, Debug, PartialEq, Eq)]
 pub enum Frequency {
-    Yearly,
-    HalfYearly,
-    Quarterly,
+    Yearly = 1,
+    HalfYearly = 2,
+    Quarterly = 4,
 }
 
 // A number of coupons a year that no bond pays.
@@ -21,7 +21,7 @@ pub enum Frequency {
 #[error("no bond pays {0} coupons a year")]
 pub struct UnknownFrequency(pub u32);
 
-// The frequency with 1, 2 or 4 coupons a year; an error with the number for any other.
+// The frequency with 1, 2 or 4 coupons a year; an error with the number for any other. No derive reads an enum from its numbers.
 impl TryFrom<u32> for Frequency {
     type Error = UnknownFrequency;
 
@@ -42,11 +42,7 @@ impl From<Frequency> for u32 {
     ghost from_gives = { λ f n. n ≡ coupons f };
 
     fn from(frequency: Frequency) -> u32 {
-        match frequency {
-            Frequency::Yearly => 1,
-            Frequency::HalfYearly => 2,
-            Frequency::Quarterly => 4,
-        }
+        frequency as u32
     }
 }
 

@@ -43,10 +43,14 @@ pub fn settle(
     ensures amounts { result ≡ settled failed terms.now delivered.now unfinished.now }
     ensures balanced { Balanced result }
 {
+    let difference = match failed {
+        Failed::Seller => unfinished.seller_difference(terms.price),
+        Failed::Buyer => unfinished.buyer_difference(terms.price),
+        Failed::Nobody | Failed::Both => 0,
+    };
     let sums = Sums {
         cost: delivered.cost(terms.price),
-        seller_difference: unfinished.seller_difference(terms.price),
-        buyer_difference: unfinished.buyer_difference(terms.price),
+        difference,
         performance: performance(unfinished.lots, terms.price, terms.ratio),
         share: terms.passed_on(unfinished.lots),
     };
@@ -63,13 +67,11 @@ pub fn settle(
 #[derive(Clone, Copy)]
 struct Sums {
     cost: u64,
-    seller_difference: u64,
-    buyer_difference: u64,
+    difference: u64,
     performance: u64,
     share: u64,
     ghost cost_fits: { cost ≤ 10 ^ 15 },
-    ghost seller_fits: { seller_difference ≤ 10 ^ 15 },
-    ghost buyer_fits: { buyer_difference ≤ 10 ^ 15 },
+    ghost difference_fits: { difference ≤ 10 ^ 15 },
     ghost performance_fits: { performance ≤ 10 ^ 15 },
     ghost share_within: { share ≤ performance },
 }
@@ -92,15 +94,14 @@ impl Sums {
 
     // The seller failed.
     fn failed_seller(self) -> Settlement
-        ensures amounts { result ≡ seller_failed self.cost self.seller_difference self.performance self.share }
+        ensures amounts { result ≡ seller_failed self.cost self.difference self.performance self.share }
         ensures balanced { Balanced result }
     {
         let Sums {
             cost,
-            seller_difference: difference,
+            difference,
             performance: sum,
             share,
-            ..
         } = self;
         Settlement {
             cost,
@@ -114,15 +115,14 @@ impl Sums {
 
     // The buyer failed.
     fn failed_buyer(self) -> Settlement
-        ensures amounts { result ≡ buyer_failed self.cost self.buyer_difference self.performance self.share }
+        ensures amounts { result ≡ buyer_failed self.cost self.difference self.performance self.share }
         ensures balanced { Balanced result }
     {
         let Sums {
             cost,
-            buyer_difference: difference,
+            difference,
             performance: sum,
             share,
-            ..
         } = self;
         Settlement {
             cost,

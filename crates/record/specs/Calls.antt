@@ -69,13 +69,6 @@ call_fields Draw = Some (field_values 82 0 0 0 0 0 no_entries)
 call_fields (LegResult leg mark unfinished) = Some (field_values 69 mark 0 0 unfinished leg no_entries)
 call_fields NextDay = Some (field_values 78 0 0 0 0 0 no_entries)
 
--- The same of a declaration or a withdrawal, and of no other call.
-abbrev pub declared_fields : Call → Option Fields
-declared_fields (DeclarePurchase minute account lots) = call_fields (DeclarePurchase minute account lots)
-declared_fields (DeclareSale minute account lots bonds) = call_fields (DeclareSale minute account lots bonds)
-declared_fields (Withdraw minute account) = call_fields (Withdraw minute account)
-declared_fields call = None
-
 -- The bytes that a call is written as.
 abbrev pub call_bytes : Call → Option (List ℕ)
 call_bytes c = option_map laid_out (call_fields c)

@@ -1,17 +1,18 @@
 // Calls as records.
 ghost use Rattle.std.specs.Prelude.{◌≡◌, IfSome, IfOk, Some};
 ghost use Rattle.terms.specs.Answers.{answered, granted};
-ghost use Rattle.record.specs.Calls.{call_layout, call_letter, call_from, call_fields, declared_fields, call_bytes, read_call};
-ghost use Rattle.record.specs.Layouts.{letter_or_refusal};
+ghost use Rattle.record.specs.Calls.{call_layout, call_letter, call_from, call_fields, call_bytes, read_call};
+ghost use Rattle.record.specs.Layouts.{field_values, letter_or_refusal, no_entries};
 
 use crate::fields::Fields;
 use crate::layouts::{Letter, read_by};
 use crate::letters::CallLetter;
 use crate::tables::Layout;
 use crate::writes::record_of;
-use terms::calls::Call;
+use terms::calls::{Account, Call};
 use terms::refusals::Refusal;
 
+// No derive reads an enum from its numbers.
 impl TryFrom<u8> for CallLetter {
     type Error = Refusal;
 
@@ -119,58 +120,58 @@ impl CallLetter {
     }
 }
 
-// The fields of a declaration's or a withdrawal's record.
-fn declared_fields(call: &Call) -> Option<Fields>
-    ensures { result ≡ declared_fields call.now }
+// The fields of the record of a declaration without entries, or of a withdrawal.
+fn declared(letter: u8, minute: u16, account: Account, lots: u32) -> Fields
+    ensures { result ≡ field_values letter 0 minute account lots 0 no_entries }
 {
-    let fields = match *call {
+    Fields {
+        minute,
+        account,
+        lots,
+        ..Fields::lettered(letter)
+    }
+}
+
+// The fields of the record of a trade or a result: a mark, and three numbers.
+fn numbered(letter: u8, mark: u8, account: Account, lots: u32, second: u32) -> Fields
+    ensures { result ≡ field_values letter mark 0 account lots second no_entries }
+{
+    Fields {
+        mark,
+        account,
+        lots,
+        second,
+        ..Fields::lettered(letter)
+    }
+}
+
+// The fields of a call's record; a preview has none.
+fn call_fields(call: &Call) -> Option<Fields>
+    ensures { result ≡ call_fields call.now }
+{
+    Some(match *call {
+        Call::Trade {
+            buyer,
+            seller,
+            lots,
+        } => numbered(CallLetter::Trade as u8, 0, buyer, lots, seller),
         Call::DeclarePurchase {
             minute,
             account,
             lots,
-        } => Fields {
-            minute,
-            account,
-            lots,
-            ..Fields::lettered(CallLetter::DeclarePurchase as u8)
-        },
+        } => declared(CallLetter::DeclarePurchase as u8, minute, account, lots),
         Call::DeclareSale {
             minute,
             account,
             lots,
             bonds,
         } => Fields {
-            minute,
-            account,
-            lots,
             entries: bonds,
-            ..Fields::lettered(CallLetter::DeclareSale as u8)
+            ..declared(CallLetter::DeclareSale as u8, minute, account, lots)
         },
-        Call::Withdraw { minute, account } => Fields {
-            minute,
-            account,
-            ..Fields::lettered(CallLetter::Withdraw as u8)
-        },
-        _ => return None,
-    };
-    Some(fields)
-}
-
-// The fields of a call's record.
-fn call_fields(call: &Call) -> Option<Fields>
-    ensures { result ≡ call_fields call.now }
-{
-    let fields = match *call {
-        Call::Trade {
-            buyer,
-            seller,
-            lots,
-        } => Fields {
-            account: buyer,
-            lots,
-            second: seller,
-            ..Fields::lettered(CallLetter::Trade as u8)
-        },
+        Call::Withdraw { minute, account } => {
+            declared(CallLetter::Withdraw as u8, minute, account, 0)
+        }
         Call::OpenTrial => Fields::lettered(CallLetter::OpenTrial as u8),
         Call::KeepTrial => Fields::lettered(CallLetter::KeepTrial as u8),
         Call::DropTrial => Fields::lettered(CallLetter::DropTrial as u8),
@@ -180,18 +181,9 @@ fn call_fields(call: &Call) -> Option<Fields>
             leg,
             mark,
             unfinished,
-        } => Fields {
-            mark,
-            lots: unfinished,
-            second: leg,
-            ..Fields::lettered(CallLetter::LegResult as u8)
-        },
-        Call::DeclarePurchase { .. } | Call::DeclareSale { .. } | Call::Withdraw { .. } => {
-            return declared_fields(call);
-        }
+        } => numbered(CallLetter::LegResult as u8, mark, 0, unfinished, leg),
         Call::Preview { .. } => return None,
-    };
-    Some(fields)
+    })
 }
 
 // The call that bytes are: 1 if there are not 64 of them, 2 if the letter is no call's, 3 if a field that it does not name is not zero. Bytes

@@ -13,6 +13,7 @@ use terms::calls::{BondCode, BondLots};
 use terms::refusals::Refusal;
 use terms::rows::{Class, Row};
 
+// No derive reads an enum from its numbers.
 impl TryFrom<u8> for RowLetter {
     type Error = Refusal;
 
@@ -48,19 +49,22 @@ impl Letter for RowLetter {
     ghost laid = { row_layout };
 
     fn layout(&self) -> Layout {
-        let number = Layout {
+        let lots_alone = Layout {
             lots: true,
             ..Layout::default()
         };
-        let two = Layout {
+        let two_numbers = Layout {
             account: true,
             second: true,
-            ..number
+            ..lots_alone
         };
         match self {
-            RowLetter::Declared | RowLetter::Undeclared | RowLetter::Virtual => two,
-            RowLetter::Leg => Layout { entries: 1, ..two },
-            RowLetter::Refused => number,
+            RowLetter::Declared | RowLetter::Undeclared | RowLetter::Virtual => two_numbers,
+            RowLetter::Leg => Layout {
+                entries: 1,
+                ..two_numbers
+            },
+            RowLetter::Refused => lots_alone,
         }
     }
 

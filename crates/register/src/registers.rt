@@ -7,7 +7,7 @@ ghost use Rattle.register.specs.Places.{registrable, place_of, Placed};
 use crate::keys::{Key, is_rising};
 use std::marker::Model;
 
-// Up to N keys, seen as their list, which rises. Nothing is on the heap, and a key needs no default to fill the table.
+// Up to N keys, seen as their list, which rises. A table and a count, since an `ArrayVec` would ask a default of a key.
 #[derive(Drop)]
 pub struct Register<K: Key, const N: usize> {
     keys: [K; N],

@@ -36,6 +36,7 @@ pub fn pairs()
 {}
 
 // The law holds of a run of two days.
+#[tactic(auto, using(crate::proofs::Worked::law_m))]
 pub fn law_holds()
     ensures { LawM }
 {}

@@ -7,11 +7,13 @@ pub fn selection_alone()
 {}
 
 // Over a sound month some selection keeps them.
+#[tactic(auto, using(crate::proofs::Exists::selection_exists))]
 pub fn selection_exists()
     ensures { SelectionExists }
 {}
 
 // Two plain months that the same calls leave are equal.
+#[tactic(auto, using(crate::proofs::Months::month_alone))]
 pub fn month_alone()
     ensures { MonthAlone }
 {}
@@ -22,6 +24,7 @@ pub fn running_keeps()
 {}
 
 // Two sides laid along a line give a pairing.
+#[tactic(auto, using(crate::proofs::Lines::laid_pairing))]
 pub fn line_pairing()
     ensures { LinePairing }
 {}

@@ -7,7 +7,7 @@ pub enum Side {
     Short,
 }
 
-// Lots of an account on one side, as hosts lend it: a short row has day 0, which the opening checks.
+// Lots of an account on one side, as hosts lend it: a short row has day 0, which the opening is to check.
 #[derive(Clone, Copy, Debug, PartialEq, Eq)]
 pub struct Holding {
     pub account: Account,

@@ -98,7 +98,7 @@ impl From<Refusal> for u32 {
     }
 }
 
-// The refusal with a number, if there is one.
+// The refusal with a number, if there is one; no derive reads an enum from its numbers.
 impl TryFrom<u32> for Refusal {
     type Error = UnknownNumber;
 

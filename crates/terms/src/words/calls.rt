@@ -44,6 +44,12 @@ fn write_declaration<W: fmt::Write>(
     )
 }
 
+// The four entries of a sale declaration.
+fn write_entries<W: fmt::Write>(f: &mut fmt::Formatter<W>, bonds: &[BondLots; 4]) -> fmt::Result {
+    let [a, b, c, d] = bonds;
+    write!(f, ", bonds {a}, {b}, {c}, {d}")
+}
+
 impl fmt::Display for Call {
     fn fmt<W: fmt::Write>(&self, f: &mut fmt::Formatter<W>) -> fmt::Result {
         match *self {
@@ -63,9 +69,8 @@ impl fmt::Display for Call {
                 lots,
                 bonds,
             } => {
-                let [a, b, c, d] = bonds;
                 write_declaration(f, "sale", minute, account, lots)?;
-                write!(f, ", bonds {a}, {b}, {c}, {d}")
+                write_entries(f, &bonds)
             }
             Call::Withdraw { minute, account } => write!(
                 f,
