@@ -1,8 +1,9 @@
 -- One selection keeps the five rules, and one plain month is left by a list of calls. Assumes nothing.
 use Rattle.std.proofs.Common.{◌≡◌, ℕ, ◌+◌, ◌-◌, ◌<◌, ◌≤◌, true, false, cond, eqb, ltb, ◌⊎◌, List, [], ◌∷◌, map, sum_by, sym, refl, ap, ◌∙◌, subst, inl, inr, arith}
 use mathlib.Core.Path.{fun_ext}
-use Rattle.std.proofs.lemmas.List.Sums.{sum_by-cons}
+use Rattle.std.proofs.lemmas.List.Sums.{sum_by-cons, sum_by-le-sum_by}
 use Rattle.std.proofs.lemmas.Bool.{cases_lt, cases_Bool, cases_order, cases_eq, eqb-true, eq-eqb, ltb-false, lt-ltb, false≢true, cond-true, cond-false, cond_both, or_left}
+use Rattle.std.proofs.lemmas.Bool.Decides.{nat_tests}
 use Rattle.terms.specs.Lots.{Dated, Position, lots_of_day}
 use Rattle.terms.specs.Month.{Month, has, held, covered, final, lots_there, holders, purchase_days, with_day, with_days, days_among}
 use Rattle.terms.specs.OddLots.{OddLotRule}
@@ -10,38 +11,21 @@ use Rattle.terms.specs.Selection.{Selection, FiveRules, letter, taken_on, taken_
 use Rattle.terms.specs.Facts.{SelectionAlone}
 use Rattle.terms.specs.declared.rows.Class.{Class}
 use Rattle.terms.specs.declared.rows.Class.TheVariants.{Declared, Undeclared, Virtual}
-use Rattle.terms.proofs.Sums.{has_there, has_cases, has_length, sum_le, sum_lt, sum_gap, sum_add, sum_swap, sum_kept, has_kept, map_agrees}
+use Rattle.terms.proofs.Sums.{has_there, has_cases, has_length, sum_lt, sum_gap, sum_add, sum_swap, sum_kept, has_kept, map_agrees}
 
 -- lots of a class are held lots
 pub there_le_held : (m : Month) (a d : ℕ) (c : Class) → lots_there m a d c ≤ held m a d
 there_le_held m a d Declared = omega arith
-there_le_held m a d Undeclared =
-    cond_both (final m) 0 (held m a d - covered m a d) (λ n. n ≤ held m a d) (λ e. omega arith) (λ e. omega arith)
-there_le_held m a d Virtual =
-    cond_both (final m) (held m a d - covered m a d) 0 (λ n. n ≤ held m a d) (λ e. omega arith) (λ e. omega arith)
+there_le_held m a d Undeclared = grind (arith, nat_tests)
+there_le_held m a d Virtual = grind (arith, nat_tests)
 
 -- an account with lots is one of the month
 pub there_known : (m : Month) (a d : ℕ) (c : Class) → 0 < lots_there m a d c → has a m.accounts ≡ true
-there_known m a d c h =
-    elim (cases_Bool (has a m.accounts)) [
-      | inl e ↦ e
-      | inr e ↦ absurd (omega (arith, there_le_held m a d c, cond-false (has a m.accounts) (lots_of_day d (m.positions a).long) 0 e))
-    ]
+there_known m a d c h = grind (arith, nat_tests, there_le_held m a d c)
 
 pub has_with_day : (x d : ℕ) (days : List ℕ) → (d ≡ x) ⊎ (has x days ≡ true) → has x (with_day d days) ≡ true
-has_with_day x d [] h = elim h [ inl e ↦ or_left (eqb d x) false (eq-eqb d x e) | inr k ↦ absurd (false≢true k) ]
-has_with_day x d (y ∷ ys) h =
-    cond_both (ltb d y) (d ∷ y ∷ ys) (cond (eqb d y) (y ∷ ys) (y ∷ with_day d ys)) (λ z. has x z ≡ true)
-    (λ l. elim h [ inl e ↦ or_left (eqb d x) (has x (y ∷ ys)) (eq-eqb d x e) | inr k ↦ has_there x d (y ∷ ys) k ])
-    (λ l. cond_both (eqb d y) (y ∷ ys) (y ∷ with_day d ys) (λ z. has x z ≡ true)
-    (λ q. elim h [ inl e ↦ or_left (eqb y x) (has x ys) (eq-eqb y x (sym (eqb-true d y q) ∙ e)) | inr k ↦ k ])
-    (λ q. elim h [
-      | inl e ↦ has_there x y (with_day d ys) (has_with_day x d ys (inl e))
-      | inr k ↦ elim (has_cases x y ys k) [
-        | inl e ↦ or_left (eqb y x) (has x (with_day d ys)) (eq-eqb y x e)
-        | inr j ↦ has_there x y (with_day d ys) (has_with_day x d ys (inr j))
-      ]
-    ]))
+has_with_day x d [] h = grind (arith, nat_tests)
+has_with_day x d (y ∷ ys) h = grind (arith, nat_tests, has_with_day x d ys)
 
 pub has_with_days : (x : ℕ) (ls : List Dated) (days : List ℕ) → has x days ≡ true → has x (with_days ls days) ≡ true
 has_with_days x [] days h = h
@@ -50,27 +34,23 @@ has_with_days x (l ∷ ls) days h = has_with_day x l.day (with_days ls days) (in
 lots_day : (x : ℕ) (ls : List Dated) (days : List ℕ) → 0 < lots_of_day x ls → has x (with_days ls days) ≡ true
 lots_day x [] days h = absurd (omega arith)
 lots_day x (l ∷ ls) days h =
-    has_with_day x l.day (with_days ls days) (elim (cases_Bool (eqb l.day x)) [
-      | inl e ↦ inl (eqb-true l.day x e)
-      | inr e ↦ inr (lots_day x ls days
-          (omega (arith, sum_by-cons (λ (k : Dated). cond (eqb k.day x) k.lots 0) l ls, cond-false (eqb l.day x) l.lots 0 e)))
-    ])
+    grind (arith, nat_tests, has_with_day x l.day (with_days ls days), sum_by-cons (λ (k : Dated). cond (eqb k.day x) k.lots 0) l ls, lots_day x ls days)
 
 account_day : (positions : ℕ → Position) (accounts : List ℕ) (a d : ℕ) → has a accounts ≡ true → 0 < lots_of_day d (positions a).long →
     has d (days_among positions accounts) ≡ true
 account_day positions [] a d i h = absurd (false≢true i)
 account_day positions (b ∷ bs) a d i h =
-    elim (has_cases a b bs i) [
-      | inl e ↦ lots_day d (positions b).long (days_among positions bs) (subst (λ x. 0 < lots_of_day d (positions x).long) (sym e) h)
-      | inr j ↦ has_with_days d (positions b).long (days_among positions bs) (account_day positions bs a d j h)
-    ]
+    grind (
+      arith,
+      nat_tests,
+      lots_day d (positions b).long (days_among positions bs),
+      has_with_days d (positions b).long (days_among positions bs),
+      account_day positions bs a d,
+    )
 
 -- a day with lots is a day of purchase
 pub there_day : (m : Month) (a d : ℕ) (c : Class) → 0 < lots_there m a d c → has d (purchase_days m) ≡ true
-there_day m a d c h =
-    let k : has a m.accounts ≡ true = there_known m a d c h in
-    account_day m.positions m.accounts a d k
-    (omega (arith, there_le_held m a d c, cond-true (has a m.accounts) (lots_of_day d (m.positions a).long) 0 k))
+there_day m a d c h = grind (arith, nat_tests, there_known m a d c h, there_le_held m a d c, account_day m.positions m.accounts a d)
 
 -- lots of one class on a day, by all accounts
 group : Month → Selection → Class → ℕ → ℕ
@@ -90,24 +70,15 @@ day_by_class m s d =
     sum_add (λ a. s a d Declared + s a d Undeclared) (λ a. s a d Virtual) m.accounts
     ∙ ap (λ n. n + sum_by (λ a. s a d Virtual) m.accounts) (sum_add (λ a. s a d Declared) (λ a. s a d Undeclared) m.accounts)
 
-D≢U : Declared ≡ Undeclared → ⊥
-D≢U e = let z : ◌≡◌ {A = ℕ} 68 85 = ap letter e in omega arith
-
-D≢V : Declared ≡ Virtual → ⊥
-D≢V e = let z : ◌≡◌ {A = ℕ} 68 86 = ap letter e in omega arith
-
-U≢V : Undeclared ≡ Virtual → ⊥
-U≢V e = let z : ◌≡◌ {A = ℕ} 85 86 = ap letter e in omega arith
-
 class_cases : (c c' : Class) → (c ≡ c') ⊎ (c ≡ c' → ⊥)
 class_cases Declared Declared = inl refl
-class_cases Declared Undeclared = inr D≢U
-class_cases Declared Virtual = inr D≢V
-class_cases Undeclared Declared = inr (λ e. D≢U (sym e))
+class_cases Declared Undeclared = inr (λ e. cc)
+class_cases Declared Virtual = inr (λ e. cc)
+class_cases Undeclared Declared = inr (λ e. cc)
 class_cases Undeclared Undeclared = inl refl
-class_cases Undeclared Virtual = inr U≢V
-class_cases Virtual Declared = inr (λ e. D≢V (sym e))
-class_cases Virtual Undeclared = inr (λ e. U≢V (sym e))
+class_cases Undeclared Virtual = inr (λ e. cc)
+class_cases Virtual Declared = inr (λ e. cc)
+class_cases Virtual Undeclared = inr (λ e. cc)
 class_cases Virtual Virtual = inl refl
 
 module _ (share : OddLotRule) (m : Month) (s t : Selection) (ks : FiveRules share m s) (kt : FiveRules share m t) where
@@ -121,42 +92,17 @@ module _ (share : OddLotRule) (m : Month) (s t : Selection) (ks : FiveRules shar
   -- where s takes less than t from an account, day and class, s takes no more than t anywhere else
   same_class : (c : Class) (a d a' d' : ℕ) → s a d c < t a d c → (d ≡ d' → ⊥) → s a' d' c ≤ t a' d' c
   same_class c a d a' d' l ne =
-      elim (cases_order d d') [
-        | inl e ↦ absurd (ne e)
-        | inr o ↦ elim o [
-          | inl later ↦ elim (cases_lt 0 (s a' d' c)) [
-            | inl p ↦ absurd (omega (arith, ks.oldest_first c a' d' a d later p, kt.within a d c))
-            | inr z ↦ omega arith
-          ]
-          | inr earlier ↦ omega (arith, kt.oldest_first c a d a' d' earlier (omega arith), ks.within a' d' c)
-        ]
-      ]
+      grind (arith, ne, ks.oldest_first c a' d' a d, kt.within a d c, kt.oldest_first c a d a' d', ks.within a' d' c)
 
   other_class : (c c' : Class) (a d a' d' : ℕ) → s a d c < t a d c → (c ≡ c' → ⊥) → s a' d' c' ≤ t a' d' c'
   other_class Declared Declared a d a' d' l ne = absurd (ne refl)
-  other_class Declared Undeclared a d a' d' l ne =
-      elim (cases_lt 0 (s a' d' Undeclared)) [
-        | inl p ↦ absurd (omega (arith, ks.declared_first a' d' a d (omega arith), kt.within a d Declared))
-        | inr z ↦ omega arith
-      ]
-  other_class Declared Virtual a d a' d' l ne =
-      elim (cases_lt 0 (s a' d' Virtual)) [
-        | inl p ↦ absurd (omega (arith, ks.declared_first a' d' a d (omega arith), kt.within a d Declared))
-        | inr z ↦ omega arith
-      ]
+  other_class Declared Undeclared a d a' d' l ne = grind (arith, ks.declared_first a' d' a d, kt.within a d Declared)
+  other_class Declared Virtual a d a' d' l ne = grind (arith, ks.declared_first a' d' a d, kt.within a d Declared)
   other_class Undeclared Declared a d a' d' l ne = omega (arith, kt.declared_first a d a' d' (omega arith), ks.within a' d' Declared)
   other_class Undeclared Undeclared a d a' d' l ne = absurd (ne refl)
-  other_class Undeclared Virtual a d a' d' l ne =
-      elim (cases_Bool (final m)) [
-        | inl e ↦ absurd (omega (arith, kt.within a d Undeclared, cond-true (final m) 0 (held m a d - covered m a d) e))
-        | inr e ↦ omega (arith, ks.within a' d' Virtual, cond-false (final m) (held m a' d' - covered m a' d') 0 e)
-      ]
+  other_class Undeclared Virtual a d a' d' l ne = grind (arith, kt.within a d Undeclared, ks.within a' d' Virtual)
   other_class Virtual Declared a d a' d' l ne = omega (arith, kt.declared_first a d a' d' (omega arith), ks.within a' d' Declared)
-  other_class Virtual Undeclared a d a' d' l ne =
-      elim (cases_Bool (final m)) [
-        | inl e ↦ omega (arith, ks.within a' d' Undeclared, cond-true (final m) 0 (held m a' d' - covered m a' d') e)
-        | inr e ↦ absurd (omega (arith, kt.within a d Virtual, cond-false (final m) (held m a d - covered m a d) 0 e))
-      ]
+  other_class Virtual Undeclared a d a' d' l ne = grind (arith, kt.within a d Virtual, ks.within a' d' Undeclared)
   other_class Virtual Virtual a d a' d' l ne = absurd (ne refl)
 
   elsewhere : (c c' : Class) (a d a' d' : ℕ) → s a d c < t a d c → (c ≡ c' → d ≡ d' → ⊥) → s a' d' c' ≤ t a' d' c'
@@ -168,21 +114,21 @@ module _ (share : OddLotRule) (m : Month) (s t : Selection) (ks : FiveRules shar
 
   other_group : (c c' : Class) (a d : ℕ) → s a d c < t a d c → (c ≡ c' → ⊥) → group m s c' d ≤ group m t c' d
   unfolding group
-  other_group c c' a d l ne = sum_le (λ x. s x d c') (λ x. t x d c') m.accounts (λ x. other_class c c' a d x d l ne)
+  other_group c c' a d l ne = sum_by-le-sum_by (λ x. s x d c') (λ x. t x d c') m.accounts (λ x. other_class c c' a d x d l ne)
 
   other_day : (c : Class) (a d d' : ℕ) → s a d c < t a d c → (d ≡ d' → ⊥) → day_total m s d' ≤ day_total m t d'
   unfolding day_total
   other_day c a d d' l ne =
-      sum_le (λ x. taken_on s x d') (λ x. taken_on t x d') m.accounts
+      sum_by-le-sum_by (λ x. taken_on s x d') (λ x. taken_on t x d') m.accounts
       (λ x. omega (arith, elsewhere c Declared a d x d' l (λ e. ne), elsewhere c Undeclared a d x d' l (λ e. ne), elsewhere c Virtual a d x d' l (λ e. ne)))
 
   this_day : (c : Class) (a d : ℕ) → s a d c < t a d c → group m s c d < group m t c d → day_total m s d < day_total m t d
   this_day Declared a d l g =
-      omega (arith, day_by_class m s d, day_by_class m t d, other_group Declared Undeclared a d l D≢U, other_group Declared Virtual a d l D≢V)
+      grind (arith, day_by_class m s d, day_by_class m t d, other_group Declared Undeclared a d l (λ e. cc), other_group Declared Virtual a d l (λ e. cc))
   this_day Undeclared a d l g =
-      omega (arith, day_by_class m s d, day_by_class m t d, other_group Undeclared Declared a d l (λ e. D≢U (sym e)), other_group Undeclared Virtual a d l U≢V)
+      grind (arith, day_by_class m s d, day_by_class m t d, other_group Undeclared Declared a d l (λ e. cc), other_group Undeclared Virtual a d l (λ e. cc))
   this_day Virtual a d l g =
-      omega (arith, day_by_class m s d, day_by_class m t d, other_group Virtual Declared a d l (λ e. D≢V (sym e)), other_group Virtual Undeclared a d l (λ e. U≢V (sym e)))
+      grind (arith, day_by_class m s d, day_by_class m t d, other_group Virtual Declared a d l (λ e. cc), other_group Virtual Undeclared a d l (λ e. cc))
 
   -- so s takes no less than t from any class and day
   group_gap : (c : Class) (d : ℕ) → group m s c d < group m t c d → (a : ℕ) × (has a m.accounts ≡ true) × (s a d c < t a d c)

@@ -2,6 +2,7 @@
 use Rattle.std.proofs.Common.{◌≡◌, ℕ, ◌+◌, ◌-◌, ◌<◌, ◌≤◌, min, Bool, true, false, cond, eqb, ltb, ◌⊎◌, List, [], ◌∷◌, length, sum_by, sym, refl, ap, ap₂, inl, inr, arith, length-append}
 use Rattle.std.proofs.lemmas.List.Sums.{sum_by-cons, sum_by-append}
 use Rattle.std.proofs.lemmas.Bool.{cases_lt, eqb-true, eqb-false, lt-ltb, le-ltb, cond-true, cond-false, cond_both}
+use Rattle.std.proofs.lemmas.Bool.Decides.{nat_tests}
 use Rattle.terms.specs.Lines.{Part, part, of_account, lots_on_line}
 use Rattle.terms.specs.Rounds.{Piece, behind, leg_row, piece_legs, legs}
 use Rattle.terms.specs.declared.rows.Row.{Row}
@@ -37,68 +38,33 @@ abbrev pub full_parts : List Part → ℕ
 full_parts bs = sum_by (λ (b : Part). some b.lots) bs
 
 pub some_cases : (n : ℕ) → ((n ≡ 0) × (some n ≡ 0)) ⊎ ((0 < n) × (some n ≡ 1))
-some_cases n =
-    elim (cases_lt 0 n) [
-      | inl l ↦ inr (l, cond-true {A = ℕ} (ltb 0 n) 1 0 (lt-ltb 0 n l))
-      | inr k ↦ inl (omega arith, cond-false {A = ℕ} (ltb 0 n) 1 0 (le-ltb 0 n k))
-    ]
-
-some_none : (n : ℕ) → n ≡ 0 → some n ≡ 0
-some_none n e = cond-false {A = ℕ} (ltb 0 n) 1 0 (le-ltb 0 n (omega arith))
-
-some_one : (n : ℕ) → 0 < n → some n ≡ 1
-some_one n l = cond-true {A = ℕ} (ltb 0 n) 1 0 (lt-ltb 0 n l)
+some_cases n = grind (arith, nat_tests)
 
 pub some_more : (x y : ℕ) → x ≤ y → some x ≤ some y
-some_more x y h =
-    elim (some_cases x) [
-      | inl k ↦ omega (arith, k.1)
-      | inr k ↦ omega (arith, k.1, some_one y (omega (arith, k.0)))
-    ]
+some_more x y h = grind (arith, nat_tests)
 
 -- n lots laid against l lots
 some_split : (n l : ℕ) → some (min n l) + some (l - n) + some (n - l) ≤ some l + some n
-some_split n l =
-    elim (cases_lt 0 (min n l)) [
-      | inl k ↦
-          let m = some_one (min n l) k in
-          let u = some_one n (omega arith) in
-          let v = some_one l (omega arith) in
-          elim (cases_lt n l) [
-            | inl i ↦ omega (arith, some_none (n - l) (omega arith), some_more (l - n) l (omega arith))
-            | inr i ↦ omega (arith, some_none (l - n) (omega arith), some_more (n - l) n (omega arith))
-          ]
-      | inr z ↦ omega (arith, some_none (min n l) (omega arith), some_more (l - n) l (omega arith), some_more (n - l) n (omega arith))
-    ]
+some_split n l = grind (arith, nat_tests)
 
 pub cond_nil : (t : Bool) (n : ℕ) → n ≡ 0 → cond t n 0 ≡ 0
-cond_nil t n e = cond_both t n 0 (λ z. z ≡ 0) (λ k. e) (λ k. refl)
+cond_nil t n e = grind arith
 
 pub cond_at_most : (t : Bool) (n k : ℕ) → n ≤ k → cond t n 0 ≤ k
-cond_at_most t n k h = cond_both t n 0 (λ z. z ≤ k) (λ e. h) (λ e. omega arith)
+cond_at_most t n k h = grind arith
 
 pub cond_sum : (t : Bool) (x y z : ℕ) → x + y ≡ z → cond t x 0 + cond t y 0 ≡ cond t z 0
-cond_sum true x y z e = e
-cond_sum false x y z e = refl
+cond_sum t x y z e = grind arith
 
 -- one leg
 leg_sold : (p : Piece) (b n a : ℕ) → sum_by (sells a) (leg_row p b n) ≡ cond (eqb p.seller a) n 0
-leg_sold p b n a =
-    cond_both (eqb n 0) [] (Leg p.seller b n p.bond ∷ []) (λ z. sum_by (sells a) z ≡ cond (eqb p.seller a) n 0)
-    (λ e. sym (cond_nil (eqb p.seller a) n (eqb-true n 0 e)))
-    (λ e. omega (arith, sum_by-cons (sells a) (Leg p.seller b n p.bond) []))
+leg_sold p b n a = grind (arith, nat_tests, sum_by-cons (sells a) (Leg p.seller b n p.bond) [])
 
 leg_bought : (p : Piece) (b n a : ℕ) → sum_by (buys a) (leg_row p b n) ≡ cond (eqb b a) n 0
-leg_bought p b n a =
-    cond_both (eqb n 0) [] (Leg p.seller b n p.bond ∷ []) (λ z. sum_by (buys a) z ≡ cond (eqb b a) n 0)
-    (λ e. sym (cond_nil (eqb b a) n (eqb-true n 0 e)))
-    (λ e. omega (arith, sum_by-cons (buys a) (Leg p.seller b n p.bond) []))
+leg_bought p b n a = grind (arith, nat_tests, sum_by-cons (buys a) (Leg p.seller b n p.bond) [])
 
 leg_counts : (p : Piece) (b n : ℕ) → length (leg_row p b n) ≡ some n
-leg_counts p b n =
-    cond_both (eqb n 0) [] (Leg p.seller b n p.bond ∷ []) (λ z. length z ≡ some n)
-    (λ e. let z = eqb-true n 0 e in elim (some_cases n) [ inl k ↦ sym k.1 | inr k ↦ absurd (omega arith) ])
-    (λ e. elim (some_cases n) [ inl k ↦ absurd (eqb-false n 0 e k.0) | inr k ↦ omega (arith, k.1) ])
+leg_counts p b n = grind (arith, nat_tests)
 
 -- without lots nothing is moved
 pub behind_zero : (n : ℕ) (bs : List Part) → n ≡ 0 → behind n bs ≡ bs
@@ -145,52 +111,52 @@ piece_bought p n (b ∷ bs) a =
 piece_within : (p : Piece) (n : ℕ) (bs : List Part) → length (piece_legs p n bs) ≤ full_parts bs
 piece_within p n [] = omega arith
 piece_within p n (b ∷ bs) =
-    let len = length-append (leg_row p b.account (min n b.lots)) (piece_legs p (n - b.lots) bs) in
-    let one = leg_counts p b.account (min n b.lots) in
-    let cut = sum_by-cons (λ (q : Part). some q.lots) b bs in
-    let rest = piece_within p (n - b.lots) bs in
-    elim (some_cases (min n b.lots)) [
-      | inl k ↦ omega (arith, k.1)
-      | inr k ↦ elim (some_cases b.lots) [ inl j ↦ absurd (omega (arith, k.0, j.0)) | inr j ↦ omega (arith, k.1, j.1) ]
-    ]
+    grind (
+      arith,
+      nat_tests,
+      length-append (leg_row p b.account (min n b.lots)) (piece_legs p (n - b.lots) bs),
+      leg_counts p b.account (min n b.lots),
+      sum_by-cons (λ (q : Part). some q.lots) b bs,
+      piece_within p (n - b.lots) bs,
+    )
 
 piece_leaves : (p : Piece) (n : ℕ) (bs : List Part) → length (piece_legs p n bs) + full_parts (behind n bs) ≤ full_parts bs + some n
 piece_leaves p n [] = omega arith
 piece_leaves p n (b ∷ bs) =
-    let len = length-append (leg_row p b.account (min n b.lots)) (piece_legs p (n - b.lots) bs) in
-    let one = leg_counts p b.account (min n b.lots) in
-    let cut = sum_by-cons (λ (q : Part). some q.lots) b bs in
-    let left = sum_by-cons (λ (q : Part). some q.lots) (part b.account (b.lots - n)) (behind (n - b.lots) bs) in
-    let rest = piece_leaves p (n - b.lots) bs in
-    omega (arith, some_split n b.lots)
+    omega (
+      arith,
+      length-append (leg_row p b.account (min n b.lots)) (piece_legs p (n - b.lots) bs),
+      leg_counts p b.account (min n b.lots),
+      sum_by-cons (λ (q : Part). some q.lots) b bs,
+      sum_by-cons (λ (q : Part). some q.lots) (part b.account (b.lots - n)) (behind (n - b.lots) bs),
+      piece_leaves p (n - b.lots) bs,
+      some_split n b.lots,
+    )
 
 -- the legs of a line
 no_lots : (bs : List Part) (a : ℕ) → lots_on_line bs ≡ 0 → of_account a bs ≡ 0
 no_lots [] a e = refl
 no_lots (b ∷ bs) a e =
-    let cut = sum_by-cons (λ (q : Part). q.lots) b bs in
-    omega (
+    grind (
       arith,
+      nat_tests,
+      sum_by-cons (λ (q : Part). q.lots) b bs,
       sum_by-cons (λ (q : Part). cond (eqb q.account a) q.lots 0) b bs,
-      cond_nil (eqb b.account a) b.lots (omega arith),
-      no_lots bs a (omega arith),
+      no_lots bs a,
     )
 
 pub legs_sold : (ps : List Piece) (bs : List Part) (a : ℕ) → piece_lots ps ≤ lots_on_line bs → sum_by (sells a) (legs ps bs) ≡ of_seller a ps
 legs_sold [] bs a h = refl
 legs_sold (p ∷ ps) bs a h =
-    let cut = sum_by-cons (λ (q : Piece). q.lots) p ps in
-    omega (
+    grind (
       arith,
+      sum_by-cons (λ (q : Piece). q.lots) p ps,
       sum_by-append (sells a) (piece_legs p p.lots bs) (legs ps (behind p.lots bs)),
       piece_sold p p.lots bs a,
-      ap (λ n. cond (eqb p.seller a) n 0) (whole p.lots (lots_on_line bs) (omega arith)),
       sum_by-cons (λ (q : Piece). cond (eqb q.seller a) q.lots 0) p ps,
-      legs_sold ps (behind p.lots bs) a (omega (arith, behind_lots p.lots bs)),
+      behind_lots p.lots bs,
+      legs_sold ps (behind p.lots bs) a,
     )
-  where
-    whole : (n l : ℕ) → n ≤ l → min n l ≡ n
-    whole n l k = omega arith
 
 pub legs_bought : (ps : List Piece) (bs : List Part) (a : ℕ) → piece_lots ps ≡ lots_on_line bs → sum_by (buys a) (legs ps bs) ≡ of_account a bs
 legs_bought [] bs a h = sym (no_lots bs a (sym h))

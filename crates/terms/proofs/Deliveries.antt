@@ -1,9 +1,10 @@
 -- The legs of a round tell two lists of pairs as they should be. Assumes nothing.
 use Rattle.std.proofs.Common.{◌≡◌, ℕ, ◌+◌, ◌-◌, ◌≤◌, min, Bool, true, false, cond, ◌&&◌, eqb, ◌⊎◌, List, [], ◌∷◌, ◌++◌, map, length, Some, None, fold, sum_by, Option, sym, refl, ap, ◌∙◌, subst, inl, inr, arith}
 use Rattle.std.specs.List.{flat_map, AllByRecursion}
-use Rattle.std.proofs.lemmas.List.Sums.{sum_by-cons}
+use Rattle.std.proofs.lemmas.List.Sums.{sum_by-cons, fold-append}
 use Rattle.std.proofs.ByRecursion.{All-append}
 use Rattle.std.proofs.lemmas.Bool.{cases_lt, cases_Bool, eq-eqb, ne_eqb, false≢true, cond-true, cond-false, cond_both}
+use Rattle.std.proofs.lemmas.Bool.Decides.{nat_tests}
 use Rattle.terms.specs.Lots.{lots_in}
 use Rattle.terms.specs.Month.{Month, has, final, effective_sale, declared_sale, declared_bonds, purchase_days, Declaration, nothing, to_buy, to_sell}
 use Rattle.terms.specs.Selection.{Selection, taken_from}
@@ -22,6 +23,7 @@ use Rattle.terms.proofs.Lines.{count_sides}
 use Rattle.terms.proofs.Legs.{with_leg_sold, with_leg_bought}
 use Rattle.terms.proofs.Behind.{sells, buys, piece_lots, some, full_pieces, full_parts, cond_nil, legs_sold, legs_bought, legs_none, legs_few}
 use Rattle.terms.proofs.Joined.{with_lots, met, meets, lines_join}
+use Rattle.terms.proofs.Rising.{sum_at}
 
 -- the pairs of legs, whatever their bonds
 abbrev with_any : List Pair → Row → List Pair
@@ -45,9 +47,7 @@ any_bought ps (Refused k ∷ rows) a = omega (arith, any_bought ps rows a, sum_b
 
 leg_length : (s b n : ℕ) (ps : List Pair) → length (with_leg s b n ps) ≤ length ps + 1
 leg_length s b n [] = omega arith
-leg_length s b n (p ∷ ps) =
-    cond_both (eqb p.seller s && eqb p.buyer b) (pair s b (p.lots + n) ∷ ps) (p ∷ with_leg s b n ps) (λ z. length z ≤ length (p ∷ ps) + 1)
-    (λ e. omega arith) (λ e. omega (arith, leg_length s b n ps))
+leg_length s b n (p ∷ ps) = grind (arith, leg_length s b n ps)
 
 any_length : (ps : List Pair) (rows : List Row) → length (fold with_any ps rows) ≤ length ps + length rows
 any_length ps [] = omega arith
@@ -56,28 +56,20 @@ any_length ps (Leg s b n bond ∷ rows) = omega (arith, any_length (with_leg s b
 any_length ps (Refused k ∷ rows) = omega (arith, any_length ps rows)
 
 -- the pairs of a sellers' line, as it meets the buyers' line
-folded_append : {A B : Type 0} (f : B → A → B) (y : B) (xs zs : List A) → fold f y (xs ++ zs) ≡ fold f (fold f y xs) zs
-folded_append f y [] zs = refl
-folded_append f y (x ∷ xs) zs = folded_append f (f y x) xs zs
-
 row_met : (p : Piece) (b n : ℕ) (ps : List Pair) → fold with_any ps (leg_row p b n) ≡ with_lots p.seller b n ps
-row_met p b n ps =
-    elim (cases_Bool (eqb n 0)) [
-      | inl e ↦ ap (fold with_any ps) (cond-true (eqb n 0) [] (Leg p.seller b n p.bond ∷ []) e) ∙ sym (cond-true (eqb n 0) ps (with_leg p.seller b n ps) e)
-      | inr e ↦ ap (fold with_any ps) (cond-false (eqb n 0) [] (Leg p.seller b n p.bond ∷ []) e) ∙ sym (cond-false (eqb n 0) ps (with_leg p.seller b n ps) e)
-    ]
+row_met p b n ps = grind (arith, nat_tests)
 
 piece_met : (p : Piece) (n : ℕ) (bs : List Part) (ps : List Pair) → fold with_any ps (piece_legs p n bs) ≡ met p.seller n bs ps
 piece_met p n [] ps = refl
 piece_met p n (b ∷ bs) ps =
-    folded_append with_any ps (leg_row p b.account (min n b.lots)) (piece_legs p (n - b.lots) bs)
+    fold-append with_any ps (leg_row p b.account (min n b.lots)) (piece_legs p (n - b.lots) bs)
     ∙ ap (λ x. fold with_any x (piece_legs p (n - b.lots) bs)) (row_met p b.account (min n b.lots) ps)
     ∙ piece_met p (n - b.lots) bs (with_lots p.seller b.account (min n b.lots) ps)
 
 line_met : (qs : List Piece) (bs : List Part) (ps : List Pair) → fold with_any ps (legs qs bs) ≡ meets qs bs ps
 line_met [] bs ps = refl
 line_met (q ∷ qs) bs ps =
-    folded_append with_any ps (piece_legs q q.lots bs) (legs qs (behind q.lots bs))
+    fold-append with_any ps (piece_legs q q.lots bs) (legs qs (behind q.lots bs))
     ∙ ap (λ x. fold with_any x (legs qs (behind q.lots bs))) (piece_met q q.lots bs ps)
     ∙ line_met qs (behind q.lots bs) (met q.seller q.lots bs ps)
 
@@ -185,43 +177,6 @@ bonds_kind s n (b ∷ bonds) = (refl, bonds_kind s (n - b.lots) bonds)
 failure_kind : (f : ℕ → ℕ) (xs : List ℕ) → AllByRecursion (λ (p : Piece). bond_kind p.bond ≡ 2) (map (λ a. piece a None (f a)) xs)
 failure_kind f [] = tt
 failure_kind f (x ∷ xs) = (refl, failure_kind f xs)
-
--- the one term of a sum that an account has
-sum_other : (f : ℕ → ℕ) (xs : List ℕ) (a : ℕ) → (has a xs ≡ true → ⊥) → sum_by (λ x. cond (eqb x a) (f x) 0) xs ≡ 0
-sum_other f [] a n = refl
-sum_other f (x ∷ xs) a n =
-    omega (
-      arith,
-      sum_by-cons (λ y. cond (eqb y a) (f y) 0) x xs,
-      cond-false (eqb x a) (f x) 0 (ne_eqb x a (λ e. n (subst (λ y. has y (x ∷ xs) ≡ true) e (has_here x xs)))),
-      sum_other f xs a (λ h. n (has_there a x xs h)),
-    )
-
-sum_own : (f : ℕ → ℕ) (xs : List ℕ) (a : ℕ) → Rising xs → has a xs ≡ true → sum_by (λ x. cond (eqb x a) (f x) 0) xs ≡ f a
-sum_own f [] a r i = absurd (false≢true i)
-sum_own f (x ∷ xs) a r i =
-    elim (has_cases a x xs i) [
-      | inl e ↦ omega (
-        arith,
-        sum_by-cons (λ y. cond (eqb y a) (f y) 0) x xs,
-        cond-true (eqb x a) (f x) 0 (eq-eqb x a e),
-        sum_other f xs a (λ h. omega (arith, r.0 a h)),
-        ap f e,
-      )
-      | inr j ↦ omega (
-        arith,
-        sum_by-cons (λ y. cond (eqb y a) (f y) 0) x xs,
-        cond-false (eqb x a) (f x) 0 (ne_eqb x a (λ e. omega (arith, r.0 a j))),
-        sum_own f xs a r.1 j,
-      )
-    ]
-
-sum_at : (f : ℕ → ℕ) (xs : List ℕ) (a : ℕ) → Rising xs → (has a xs ≡ false → f a ≡ 0) → sum_by (λ x. cond (eqb x a) (f x) 0) xs ≡ f a
-sum_at f xs a r off =
-    elim (cases_Bool (has a xs)) [
-      | inl i ↦ sum_own f xs a r i
-      | inr n ↦ sum_other f xs a (λ y. false≢true (sym n ∙ y)) ∙ sym (off n)
-    ]
 
 -- the sum over a line made from accounts
 pub map_sum : {A : Type 0} (w : A → ℕ) (q : ℕ → A) (xs : List ℕ) → sum_by w (map q xs) ≡ sum_by (λ x. w (q x)) xs
@@ -342,9 +297,9 @@ round_paired m sel sound sides within complete = record {
 
     first : delivery_pairs (selection_rows m sel ++ leg_rows m sel) ≡ fold with_row [] (delivery_legs m sel)
     first =
-        folded_append with_row [] (selection_rows m sel) (leg_rows m sel)
+        fold-append with_row [] (selection_rows m sel) (leg_rows m sel)
         ∙ ap (λ ps. fold with_row ps (leg_rows m sel)) (without_bond 0 [] (selection_rows m sel) (λ e. omega arith) (selection_kind m sel))
-        ∙ folded_append with_row [] (delivery_legs m sel) (failure_legs m sel)
+        ∙ fold-append with_row [] (delivery_legs m sel) (failure_legs m sel)
         ∙ without_bond 2 (fold with_row [] (delivery_legs m sel)) (failure_legs m sel) (λ e. omega arith) other_rows
 
     second : failure_pairs (selection_rows m sel ++ leg_rows m sel) ≡ failure_pairs (failure_legs m sel)

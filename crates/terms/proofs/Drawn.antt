@@ -1,5 +1,6 @@
 -- The legs of a round: the pairs that they tell, and how many there are. Assumes nothing.
 use Rattle.std.proofs.Common.{◌≡◌, ℕ, ◌≤◌, sum_by, sym, ◌∙◌, subst, inl, inr, arith}
+use Rattle.std.proofs.lemmas.List.Sums.{sum_by-le-sum_by}
 use Rattle.std.proofs.lemmas.Bool.{cases_Bool, cond-false}
 use Rattle.terms.specs.Lots.{lots_in, lots_of_day}
 use Rattle.terms.specs.Month.{Month, has, held, purchase_days}
@@ -9,7 +10,7 @@ use Rattle.terms.specs.Pairs.{Paired}
 use Rattle.terms.specs.Rounds.{chosen, round_rows}
 use Rattle.terms.specs.Facts.{Sound, SoundSides, RoundPairs, FewLegs}
 use Rattle.terms.specs.declared.rows.Class.TheVariants.{Declared, Undeclared, Virtual}
-use Rattle.terms.proofs.Sums.{sum_le, sum_same, sum_zero}
+use Rattle.terms.proofs.Sums.{sum_same, sum_zero}
 use Rattle.terms.proofs.Exists.{classes_held, held_all, within, chosen_keeps}
 use Rattle.terms.proofs.Told.{told_round}
 use Rattle.terms.proofs.Deliveries.{round_paired}
@@ -19,7 +20,7 @@ module _ (share : OddLotRule) (m : Month) (keeps : KeepsMeaning share) (sound : 
   -- no more lots are taken from an account than it holds
   taken_held : (a : ℕ) → taken_from m (chosen share m) a ≤ sum_by (held m a) (purchase_days m)
   taken_held a =
-      sum_le (taken_on (chosen share m) a) (held m a) (purchase_days m)
+      sum_by-le-sum_by (taken_on (chosen share m) a) (held m a) (purchase_days m)
       (λ d. omega (
         arith,
         within share m keeps sound a d Declared,

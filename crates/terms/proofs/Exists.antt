@@ -3,7 +3,7 @@ use Rattle.std.proofs.Common.{◌≡◌, ℕ, ◌+◌, ◌-◌, ◌*◌, ◌/◌
 use lib.ListN.{length-map}
 use Rattle.std.specs.List.{AllByRecursion}
 use Rattle.std.proofs.ByRecursion.{All-map}
-use Rattle.std.proofs.lemmas.List.Sums.{sum_by-cons, sum-map}
+use Rattle.std.proofs.lemmas.List.Sums.{sum_by-cons, sum-map, sum_by-le-sum_by}
 use Rattle.std.proofs.lemmas.Bool.{cases_lt, cases_Bool, ltb-true, ltb-false, lt-ltb, cond-true, cond-false, cond_both}
 use Rattle.terms.specs.Lots.{Dated, lots_in, lots_of_day}
 use Rattle.terms.specs.Month.{Month, has, held, covered, final, lots_there, holders, purchase_days, effective_sale}
@@ -13,7 +13,7 @@ use Rattle.terms.specs.Rounds.{asked, group_size, class_size, to_deliver, wanted
 use Rattle.terms.specs.Facts.{Sound, SelectionExists}
 use Rattle.terms.specs.declared.rows.Class.{Class}
 use Rattle.terms.specs.declared.rows.Class.TheVariants.{Declared, Undeclared, Virtual}
-use Rattle.terms.proofs.Sums.{has_here, has_there, has_length, sum_le, sum_add, sum_same, sum_swap, sum_kept, has_kept}
+use Rattle.terms.proofs.Sums.{has_here, has_there, has_length, sum_add, sum_same, sum_swap, sum_kept, has_kept}
 use Rattle.terms.proofs.Rising.{sum_same_in, has_term, kept_has, kept_rising, kept_length, days_rising, days_within, lots_by_day}
 use Rattle.terms.proofs.Alone.{there_le_held, there_known, there_day}
 use Rattle.terms.proofs.Fill.{fill_full, fill_all, fill_sum, part_le, part_ge, parts_map, ceil_le, sum_positive}
@@ -78,7 +78,7 @@ enough m s =
       arith,
       classes_all m,
       s.balanced,
-      sum_le (effective_sale m) (λ a. (m.positions a).short) m.accounts (λ a. omega arith),
+      sum_by-le-sum_by (effective_sale m) (λ a. (m.positions a).short) m.accounts (λ a. omega arith),
     )
 
 module _ (share : OddLotRule) (m : Month) (keeps : KeepsMeaning share) (sound : Sound m) where

@@ -2,64 +2,55 @@
 use Rattle.std.proofs.Common.{◌≡◌, ℕ, suc, ◌+◌, ◌-◌, ◌*◌, ◌/◌, ◌<◌, ◌≤◌, min, true, cond, eqb, ltb, List, [], ◌∷◌, map, length, get_or, sum_by, sum, refl, ap, ◌∙◌, subst, ap₂, inl, inr, add-mul, mul-le-mul_left, arith}
 use Rattle.std.specs.List.{AllByRecursion}
 use Rattle.std.proofs.lemmas.Nat.{div_below}
-use Rattle.std.proofs.lemmas.List.Sums.{sum_by-cons}
+use Rattle.std.proofs.lemmas.List.Sums.{sum_by-cons, sum_by-le-sum_by}
 use Rattle.std.proofs.lemmas.Bool.{cases_lt, eqb-true, eqb-false, eq-eqb, ne_eqb, lt-ltb, le-ltb, false≢true, cond-true, cond-false, cond_both}
+use Rattle.std.proofs.lemmas.Bool.Decides.{nat_tests}
 use Rattle.terms.specs.Month.{has}
 use Rattle.terms.specs.Rounds.{before, fill, part_of}
 use Rattle.terms.specs.Facts.{Rising}
-use Rattle.terms.proofs.Sums.{has_here, has_there, has_cases, sum_le}
+use Rattle.terms.proofs.Sums.{has_here, has_there, has_cases}
 use Rattle.terms.proofs.Rising.{sum_same_in, map_same_in}
 
 before_none : (t : ℕ → ℕ) (d : ℕ) (days : List ℕ) → ((x : ℕ) → has x days ≡ true → d < x) → before t days d ≡ 0
 before_none t d [] h = refl
 before_none t d (x ∷ xs) h =
-    let l = h x (has_here x xs) in
-    omega (
+    grind (
       arith,
+      nat_tests,
+      h x (has_here x xs),
       sum_by-cons (λ e. cond (ltb e d) (t e) 0) x xs,
-      cond-false (ltb x d) (t x) 0 (le-ltb x d (omega arith)),
       before_none t d xs (λ y i. h y (has_there y x xs i)),
     )
 
 later_le : (t : ℕ → ℕ) (e d' d : ℕ) → d' < d → cond (ltb e d') (t e) 0 ≤ cond (ltb e d) (t e) 0
-later_le t e d' d l =
-    elim (cases_lt e d') [
-      | inl k ↦ omega (arith, cond-true (ltb e d') (t e) 0 (lt-ltb e d' k), cond-true (ltb e d) (t e) 0 (lt-ltb e d (omega arith)))
-      | inr k ↦ omega (arith, cond-false (ltb e d') (t e) 0 (le-ltb e d' k))
-    ]
+later_le t e d' d l = grind (arith, nat_tests)
 
 pub before_step : (t : ℕ → ℕ) (days : List ℕ) (d' d : ℕ) → d' < d → has d' days ≡ true → before t days d' + t d' ≤ before t days d
 before_step t [] d' d l i = absurd (false≢true i)
 before_step t (e ∷ es) d' d l i =
-    let s = sum_by-cons (λ x. cond (ltb x d') (t x) 0) e es in
-    let u = sum_by-cons (λ x. cond (ltb x d) (t x) 0) e es in
-    elim (has_cases d' e es i) [
-      | inl q ↦
-          let z = ap t q in
-          omega (
-            arith,
-            s,
-            u,
-            cond-false (ltb e d') (t e) 0 (le-ltb e d' (omega arith)),
-            cond-true (ltb e d) (t e) 0 (lt-ltb e d (omega arith)),
-            sum_le (λ x. cond (ltb x d') (t x) 0) (λ x. cond (ltb x d) (t x) 0) es (λ x. later_le t x d' d l),
-          )
-      | inr j ↦ omega (arith, s, u, later_le t e d' d l, before_step t es d' d l j)
-    ]
+    grind (
+      arith,
+      nat_tests,
+      sum_by-cons (λ x. cond (ltb x d') (t x) 0) e es,
+      sum_by-cons (λ x. cond (ltb x d) (t x) 0) e es,
+      sum_by-le-sum_by (λ x. cond (ltb x d') (t x) 0) (λ x. cond (ltb x d) (t x) 0) es (λ x. later_le t x d' d l),
+      before_step t es d' d l,
+    )
 
 some_le : (t : ℕ → ℕ) (e d : ℕ) → cond (ltb e d) (t e) 0 ≤ t e
-some_le t e d = cond_both (ltb e d) (t e) 0 (λ x. x ≤ t e) (λ q. omega arith) (λ q. omega arith)
+some_le t e d = grind (arith, nat_tests)
 
 pub before_all : (t : ℕ → ℕ) (days : List ℕ) (d : ℕ) → has d days ≡ true → before t days d + t d ≤ sum_by t days
 before_all t [] d i = absurd (false≢true i)
 before_all t (e ∷ es) d i =
-    let s = sum_by-cons (λ x. cond (ltb x d) (t x) 0) e es in
-    let u = sum_by-cons t e es in
-    elim (has_cases d e es i) [
-      | inl q ↦ let z = ap t q in
-          omega (arith, s, u, cond-false (ltb e d) (t e) 0 (le-ltb e d (omega arith)), sum_le (λ x. cond (ltb x d) (t x) 0) t es (λ x. some_le t x d))
-      | inr j ↦ omega (arith, s, u, some_le t e d, before_all t es d j)
-    ]
+    grind (
+      arith,
+      nat_tests,
+      sum_by-cons (λ x. cond (ltb x d) (t x) 0) e es,
+      sum_by-cons t e es,
+      sum_by-le-sum_by (λ x. cond (ltb x d) (t x) 0) t es (λ x. some_le t x d),
+      before_all t es d,
+    )
 
 -- an older day is full where a later one gives a lot
 pub fill_full : (t : ℕ → ℕ) (n : ℕ) (days : List ℕ) (d' d : ℕ) → d' < d → has d' days ≡ true → 0 < fill t n days d → t d' ≤ fill t n days d'
@@ -73,32 +64,23 @@ fill_all t n days d i h = omega (arith, before_all t days d i)
 pub fill_sum : (t : ℕ → ℕ) (n : ℕ) (days : List ℕ) → Rising days → sum_by (fill t n days) days ≡ min n (sum_by t days)
 fill_sum t n [] r = omega arith
 fill_sum t n (e ∷ es) r =
-    let b : before t (e ∷ es) e ≡ 0 =
-    omega (arith, sum_by-cons (λ x. cond (ltb x e) (t x) 0) e es, cond-false (ltb e e) (t e) 0 (le-ltb e e (omega arith)), before_none t e es r.0) in
+    let b : before t (e ∷ es) e ≡ 0 = grind (arith, nat_tests, sum_by-cons (λ x. cond (ltb x e) (t x) 0) e es, before_none t e es r.0) in
     let tail : sum_by (fill t n (e ∷ es)) es ≡ sum_by (fill t (n - t e) es) es =
     sum_same_in (fill t n (e ∷ es)) (fill t (n - t e) es) es
-    (λ d i. omega (arith, sum_by-cons (λ x. cond (ltb x d) (t x) 0) e es, cond-true (ltb e d) (t e) 0 (lt-ltb e d (r.0 d i)))) in
+    (λ d i. grind (arith, nat_tests, sum_by-cons (λ x. cond (ltb x d) (t x) 0) e es, r.0 d i)) in
     omega (arith, sum_by-cons (fill t n (e ∷ es)) e es, sum_by-cons t e es, b, tail, fill_sum t (n - t e) es r.1)
 
 pub part_le : (f : ℕ → ℕ) (xs ps : List ℕ) → ((i : ℕ) → i < length xs → get_or ps i 0 ≤ get_or (map f xs) i 0) → (a : ℕ) → part_of a xs ps ≤ f a
 part_le f [] ps h a = omega arith
 part_le f (x ∷ xs) [] h a = omega arith
-part_le f (x ∷ xs) (p ∷ ps) h a =
-    cond_both (eqb x a) p (part_of a xs ps) (λ v. v ≤ f a)
-    (λ e. subst (λ z. p ≤ f z) (eqb-true x a e) (h 0 (omega arith)))
-    (λ e. part_le f xs ps (λ i l. h (suc i) (omega arith)) a)
+part_le f (x ∷ xs) (p ∷ ps) h a = grind (arith, nat_tests, h 0 (omega arith), part_le f xs ps (λ i l. h (suc i) (omega arith)) a)
 
 pub part_ge : (f : ℕ → ℕ) (xs ps : List ℕ) → length ps ≡ length xs → ((i : ℕ) → i < length xs → get_or (map f xs) i 0 ≤ get_or ps i 0) →
     (a : ℕ) → has a xs ≡ true → f a ≤ part_of a xs ps
 part_ge f [] ps k h a i = absurd (false≢true i)
 part_ge f (x ∷ xs) [] k h a i = absurd (omega arith)
 part_ge f (x ∷ xs) (p ∷ ps) k h a i =
-    cond_both (eqb x a) p (part_of a xs ps) (λ v. f a ≤ v)
-    (λ e. subst (λ z. f z ≤ p) (eqb-true x a e) (h 0 (omega arith)))
-    (λ e. elim (has_cases a x xs i) [
-      | inl q ↦ absurd (eqb-false x a e q)
-      | inr j ↦ part_ge f xs ps (omega arith) (λ y l. h (suc y) (omega arith)) a j
-    ])
+    grind (arith, nat_tests, h 0 (omega arith), part_ge f xs ps (omega arith) (λ y l. h (suc y) (omega arith)) a)
 
 pub parts_map : (xs ps : List ℕ) → Rising xs → length ps ≡ length xs → map (λ a. part_of a xs ps) xs ≡ ps
 parts_map [] [] r k = refl
@@ -106,8 +88,7 @@ parts_map [] (p ∷ ps) r k = absurd (omega arith)
 parts_map (x ∷ xs) [] r k = absurd (omega arith)
 parts_map (x ∷ xs) (p ∷ ps) r k =
     ap₂ (λ a b. a ∷ b) (cond-true (eqb x x) p (part_of x xs ps) (eq-eqb x x refl))
-    (map_same_in (λ a. cond (eqb x a) p (part_of a xs ps)) (λ a. part_of a xs ps) xs
-    (λ y i. cond-false (eqb x y) p (part_of y xs ps) (ne_eqb x y (λ e. omega (arith, r.0 y i))))
+    (map_same_in (λ a. cond (eqb x a) p (part_of a xs ps)) (λ a. part_of a xs ps) xs (λ y i. grind (arith, nat_tests, r.0 y i))
     ∙ parts_map xs ps r.1 (omega arith))
 
 -- a share of at most all, rounded up, is no more than the lots

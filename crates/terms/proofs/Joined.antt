@@ -3,6 +3,7 @@ use Rattle.std.proofs.Common.{◌≡◌, ℕ, ◌+◌, ◌-◌, ◌<◌, ◌≤�
 use Rattle.std.specs.List.{flat_map}
 use Rattle.std.proofs.lemmas.List.Sums.{sum_by-cons}
 use Rattle.std.proofs.lemmas.Bool.{cases_lt, cases_Bool, eq-eqb, ne_eqb, and_from, cond-true, cond-false}
+use Rattle.std.proofs.lemmas.Bool.Decides.{nat_tests}
 use Rattle.terms.specs.Lines.{Part, part}
 use Rattle.terms.specs.Pairs.{Pair, pair, with_leg}
 use Rattle.terms.specs.Rounds.{Piece, piece, bond_pieces, behind}
@@ -11,43 +12,18 @@ use Rattle.terms.proofs.Behind.{behind_zero}
 
 -- two legs of one seller and buyer, one after the other, are one leg
 leg_twice : (s b n k : ℕ) (ps : List Pair) → with_leg s b k (with_leg s b n ps) ≡ with_leg s b (n + k) ps
-leg_twice s b n k [] =
-    cond-true (eqb s s && eqb b b) (pair s b (n + k) ∷ []) (pair s b n ∷ pair s b k ∷ []) (and_from (eqb s s) (eqb b b) (eq-eqb s s refl) (eq-eqb b b refl))
-leg_twice s b n k (p ∷ ps) =
-    let t = eqb p.seller s && eqb p.buyer b in
-    elim (cases_Bool (eqb p.seller s && eqb p.buyer b)) [
-      | inl e ↦
-          ap (with_leg s b k) (cond-true t (pair s b (p.lots + n) ∷ ps) (p ∷ with_leg s b n ps) e)
-          ∙ cond-true (eqb s s && eqb b b) (pair s b (p.lots + n + k) ∷ ps) (pair s b (p.lots + n) ∷ with_leg s b k ps)
-          (and_from (eqb s s) (eqb b b) (eq-eqb s s refl) (eq-eqb b b refl))
-          ∙ ap (λ l. pair s b l ∷ ps) (omega arith)
-          ∙ sym (cond-true t (pair s b (p.lots + (n + k)) ∷ ps) (p ∷ with_leg s b (n + k) ps) e)
-      | inr e ↦
-          ap (with_leg s b k) (cond-false t (pair s b (p.lots + n) ∷ ps) (p ∷ with_leg s b n ps) e)
-          ∙ cond-false t (pair s b (p.lots + k) ∷ with_leg s b n ps) (p ∷ with_leg s b k (with_leg s b n ps)) e
-          ∙ ap (λ l. p ∷ l) (leg_twice s b n k ps)
-          ∙ sym (cond-false t (pair s b (p.lots + (n + k)) ∷ ps) (p ∷ with_leg s b (n + k) ps) e)
-    ]
+leg_twice s b n k [] = grind (arith, nat_tests)
+leg_twice s b n k (p ∷ ps) = grind (arith, nat_tests, leg_twice s b n k ps)
 
 -- lots of a seller and a buyer, none being no leg
 abbrev pub with_lots : ℕ → ℕ → ℕ → List Pair → List Pair
 with_lots s b n ps = cond (eqb n 0) ps (with_leg s b n ps)
 
 lots_nil : (s b n : ℕ) (ps : List Pair) → n ≡ 0 → with_lots s b n ps ≡ ps
-lots_nil s b n ps e = cond-true (eqb n 0) ps (with_leg s b n ps) (eq-eqb n 0 e)
-
-lots_leg : (s b n : ℕ) (ps : List Pair) → 0 < n → with_lots s b n ps ≡ with_leg s b n ps
-lots_leg s b n ps l = cond-false (eqb n 0) ps (with_leg s b n ps) (ne_eqb n 0 (λ e. omega arith))
+lots_nil s b n ps e = grind (arith, nat_tests)
 
 lots_twice : (s b n k : ℕ) (ps : List Pair) → with_lots s b k (with_lots s b n ps) ≡ with_lots s b (n + k) ps
-lots_twice s b n k ps =
-    elim (cases_lt 0 n) [
-      | inl l ↦ elim (cases_lt 0 k) [
-        | inl r ↦ ap (with_lots s b k) (lots_leg s b n ps l) ∙ lots_leg s b k (with_leg s b n ps) r ∙ leg_twice s b n k ps ∙ sym (lots_leg s b (n + k) ps (omega arith))
-        | inr z ↦ lots_nil s b k (with_lots s b n ps) (omega arith) ∙ ap (λ j. with_lots s b j ps) (omega arith)
-      ]
-      | inr z ↦ ap (with_lots s b k) (lots_nil s b n ps (omega arith)) ∙ ap (λ j. with_lots s b j ps) (omega arith)
-    ]
+lots_twice s b n k ps = grind (arith, nat_tests, leg_twice s b n k ps)
 
 -- n lots of a seller meet the buyers' line
 abbrev pub met : ℕ → ℕ → List Part → List Pair → List Pair
@@ -57,7 +33,7 @@ met s n (b ∷ bs) ps = met s (n - b.lots) bs (with_lots s b.account (min n b.lo
 met_zero : (s n : ℕ) (bs : List Part) (ps : List Pair) → n ≡ 0 → met s n bs ps ≡ ps
 met_zero s n [] ps e = refl
 met_zero s n (b ∷ bs) ps e =
-    met_zero s (n - b.lots) bs (with_lots s b.account (min n b.lots) ps) (omega arith) ∙ lots_nil s b.account (min n b.lots) ps (omega arith)
+    grind (arith, nat_tests, met_zero s (n - b.lots) bs (with_lots s b.account (min n b.lots) ps), lots_nil s b.account (min n b.lots) ps)
 
 -- lots of one seller, one piece behind the other, meet the line as one piece
 behind_join : (n k : ℕ) (bs : List Part) → behind k (behind n bs) ≡ behind (n + k) bs

@@ -1,8 +1,9 @@
 -- A round has few legs. Assumes nothing.
 use Rattle.std.proofs.Common.{◌≡◌, ℕ, ◌+◌, ◌-◌, ◌*◌, ◌<◌, ◌≤◌, min, ltb, List, [], ◌∷◌, length, Some, None, count_by, refl, inl, inr, arith, length-append}
 use Rattle.std.specs.List.{flat_map}
-use Rattle.std.proofs.lemmas.List.Sums.{sum_by-cons, sum_by-append, count_by-le-length}
+use Rattle.std.proofs.lemmas.List.Sums.{sum_by-cons, sum_by-append, count_by-le-length, sum_by-le-sum_by}
 use Rattle.std.proofs.lemmas.Bool.{cases_lt}
+use Rattle.std.proofs.lemmas.Bool.Decides.{nat_tests}
 use Rattle.terms.specs.Lots.{lots_in}
 use Rattle.terms.specs.Month.{Month, final, effective_sale, declared_bonds}
 use Rattle.terms.specs.Selection.{Selection, taken_from}
@@ -11,7 +12,6 @@ use Rattle.terms.specs.Pairs.{unsold, unbought}
 use Rattle.terms.specs.Rounds.{Piece, piece, bond_pieces, delivery_pieces, failure_pieces, buyers, legs, delivery_legs, failure_legs, leg_rows}
 use Rattle.terms.specs.Facts.{Sound, SoundSides}
 use Rattle.terms.specs.declared.calls.BondLots.{BondLots}
-use Rattle.terms.proofs.Sums.{sum_le}
 use Rattle.terms.proofs.Lines.{count_sides}
 use Rattle.terms.proofs.Behind.{some, some_cases, some_more, full_pieces, full_parts, cond_at_most, legs_none, legs_few}
 use Rattle.terms.proofs.Deliveries.{map_sum}
@@ -20,19 +20,22 @@ use Rattle.terms.proofs.Deliveries.{map_sum}
 bonds_none : (s n : ℕ) (bonds : List BondLots) → n ≡ 0 → full_pieces (bond_pieces s n bonds) ≡ 0
 bonds_none s n [] e = refl
 bonds_none s n (b ∷ bonds) e =
-    omega (
+    grind (
       arith,
+      nat_tests,
       sum_by-cons (λ (p : Piece). some p.lots) (piece s (Some b.bond) (min n b.lots)) (bond_pieces s (n - b.lots) bonds),
-      some_more (min n b.lots) 0 (omega arith),
-      bonds_none s (n - b.lots) bonds (omega arith),
+      bonds_none s (n - b.lots) bonds,
     )
 
 bonds_each : (s n : ℕ) (bonds : List BondLots) → full_pieces (bond_pieces s n bonds) ≤ length bonds
 bonds_each s n [] = omega arith
 bonds_each s n (b ∷ bonds) =
-    let cut = sum_by-cons (λ (p : Piece). some p.lots) (piece s (Some b.bond) (min n b.lots)) (bond_pieces s (n - b.lots) bonds) in
-    let rest = bonds_each s (n - b.lots) bonds in
-    elim (some_cases (min n b.lots)) [ inl k ↦ omega (arith, k.1) | inr k ↦ omega (arith, k.1) ]
+    grind (
+      arith,
+      nat_tests,
+      sum_by-cons (λ (p : Piece). some p.lots) (piece s (Some b.bond) (min n b.lots)) (bond_pieces s (n - b.lots) bonds),
+      bonds_each s (n - b.lots) bonds,
+    )
 
 pieces_full : (f h : ℕ → ℕ) (bonds : ℕ → List BondLots) → ((a : ℕ) → f a ≤ h a) → ((a : ℕ) → length (bonds a) ≤ 4) → (xs : List ℕ) →
     full_pieces (flat_map (λ a. bond_pieces a (f a) (bonds a)) xs) ≤ 4 * count_by (λ a. ltb 0 (h a)) xs
@@ -49,11 +52,7 @@ pieces_full f h bonds within four (x ∷ xs) =
 
 -- legs between at most s pieces and b buyers with lots
 legs_within : (ps : List Piece) (bs : List Part) (s b : ℕ) → full_pieces ps ≤ s → full_parts bs ≤ b → 0 < b → length (legs ps bs) < s + b
-legs_within ps bs s b p q l =
-    elim (cases_lt 0 (full_parts bs)) [
-      | inl k ↦ omega (arith, legs_few ps bs (omega arith))
-      | inr z ↦ omega (arith, legs_none ps bs (omega arith))
-    ]
+legs_within ps bs s b p q l = grind (arith, legs_few ps bs, legs_none ps bs)
 
 -- A round has at most 1,275 legs.
 pub few_legs_of : (m : Month) (sel : Selection) → Sound m → SoundSides m → ((a : ℕ) → taken_from m sel a ≤ lots_in (m.positions a).long) → length (leg_rows m sel) ≤ 1275
@@ -86,7 +85,7 @@ few_legs_of m sel sound apart within =
         omega (
           arith,
           map_sum (λ (p : Part). some p.lots) (λ x. part x (g x)) m.accounts,
-          sum_le (λ a. some (g a)) (λ a. some (lots_in (m.positions a).long)) m.accounts (λ a. some_more (g a) (lots_in (m.positions a).long) (h a)),
+          sum_by-le-sum_by (λ a. some (g a)) (λ a. some (lots_in (m.positions a).long)) m.accounts (λ a. some_more (g a) (lots_in (m.positions a).long) (h a)),
         )
 
     bought_full : full_parts (buyers (taken_from m sel) m.accounts) ≤ count_by (λ a. ltb 0 (lots_in (m.positions a).long)) m.accounts
@@ -100,6 +99,6 @@ few_legs_of m sel sound apart within =
         omega (
           arith,
           map_sum (λ (p : Piece). some p.lots) (λ x. piece x None (unsold m x)) m.accounts,
-          sum_le (λ a. some (unsold m a)) (λ a. some (m.positions a).short) m.accounts
+          sum_by-le-sum_by (λ a. some (unsold m a)) (λ a. some (m.positions a).short) m.accounts
               (λ a. some_more (unsold m a) (m.positions a).short (cond_at_most (final m) ((m.positions a).short - effective_sale m a) (m.positions a).short (omega arith))),
         )

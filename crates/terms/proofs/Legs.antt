@@ -2,6 +2,7 @@
 use Rattle.std.proofs.Common.{◌≡◌, ℕ, ◌+◌, Bool, true, cond, not, ◌&&◌, eqb, List, [], ◌∷◌, ◌++◌, Some, sum_by, refl, ap, ◌∙◌, inl, inr, arith}
 use Rattle.std.proofs.lemmas.List.Sums.{fold_push, sum_by-cons}
 use Rattle.std.proofs.lemmas.Bool.{cases_Bool, eqb-true, eq-eqb, and_parts, and_from, not-true, cond-true, cond-false, cond_both}
+use Rattle.std.proofs.lemmas.Bool.Decides.{nat_tests}
 use Rattle.terms.specs.Pairs.{Pair, pair, with_leg, with_row, delivery_pairs, sold_in, bought_in}
 use Rattle.terms.specs.declared.calls.BondCode.{BondCode}
 use Rattle.terms.specs.declared.rows.Row.{Row}
@@ -20,22 +21,16 @@ module _ (key : Pair → ℕ) (a : ℕ) (keyed : (s b n k : ℕ) → key (pair s
   pub with_leg_sum : (s b n : ℕ) (ps : List Pair) → keyed_sum (with_leg s b n ps) ≡ keyed_sum ps + cond (eqb (key (pair s b n)) a) n 0
   with_leg_sum s b n [] = omega (arith, sum_by-cons (λ (p : Pair). cond (eqb (key p) a) p.lots 0) (pair s b n) [])
   with_leg_sum s b n (p ∷ ps) =
-      let whole = sum_by-cons (λ (q : Pair). cond (eqb (key q) a) q.lots 0) p ps in
-      cond_both (eqb p.seller s && eqb p.buyer b) (pair s b (p.lots + n) ∷ ps) (p ∷ with_leg s b n ps)
-      (λ zs. keyed_sum zs ≡ keyed_sum (p ∷ ps) + cond (eqb (key (pair s b n)) a) n 0)
-      (λ e.
-      let k = and_parts (eqb p.seller s) (eqb p.buyer b) e in
-      let same : key p ≡ key (pair s b n) =
-      ap (λ x. key (pair x p.buyer p.lots)) (eqb-true p.seller s k.0) ∙ ap (λ x. key (pair s x p.lots)) (eqb-true p.buyer b k.1) ∙ keyed s b p.lots n in
-      let grown : key (pair s b (p.lots + n)) ≡ key (pair s b n) = keyed s b (p.lots + n) n in
-      let q = sum_by-cons (λ (x : Pair). cond (eqb (key x) a) x.lots 0) (pair s b (p.lots + n)) ps in
-      let left = ap (λ x. cond (eqb x a) (p.lots + n) 0) grown in
-      let right = ap (λ x. cond (eqb x a) p.lots 0) same in
-      elim (cases_Bool (eqb (key (pair s b n)) a)) [
-        | inl t ↦ omega (arith, whole, q, left, right, cond-true (eqb (key (pair s b n)) a) (p.lots + n) 0 t, cond-true (eqb (key (pair s b n)) a) p.lots 0 t, cond-true (eqb (key (pair s b n)) a) n 0 t)
-        | inr f ↦ omega (arith, whole, q, left, right, cond-false (eqb (key (pair s b n)) a) (p.lots + n) 0 f, cond-false (eqb (key (pair s b n)) a) p.lots 0 f, cond-false (eqb (key (pair s b n)) a) n 0 f)
-      ])
-      (λ e. omega (arith, whole, sum_by-cons (λ (x : Pair). cond (eqb (key x) a) x.lots 0) p (with_leg s b n ps), with_leg_sum s b n ps))
+      grind (
+        arith,
+        nat_tests,
+        keyed s b p.lots n,
+        keyed s b (p.lots + n) n,
+        sum_by-cons (λ (q : Pair). cond (eqb (key q) a) q.lots 0) p ps,
+        sum_by-cons (λ (q : Pair). cond (eqb (key q) a) q.lots 0) (pair s b (p.lots + n)) ps,
+        sum_by-cons (λ (q : Pair). cond (eqb (key q) a) q.lots 0) p (with_leg s b n ps),
+        with_leg_sum s b n ps,
+      )
 
 -- what a leg adds to its seller and to its buyer
 pub with_leg_sold : (s b n : ℕ) (ps : List Pair) (a : ℕ) → sold_in (with_leg s b n ps) a ≡ sold_in ps a + cond (eqb s a) n 0
@@ -52,16 +47,9 @@ apart s b (p ∷ ps) = not (eqb p.seller s && eqb p.buyer b) && apart s b ps
 -- a leg of a new seller and buyer is a pair behind the others
 pub with_leg_new : (s b n : ℕ) (ps : List Pair) → apart s b ps ≡ true → with_leg s b n ps ≡ ps ++ (pair s b n ∷ [])
 with_leg_new s b n [] h = refl
-with_leg_new s b n (p ∷ ps) h =
-    let k = and_parts (not (eqb p.seller s && eqb p.buyer b)) (apart s b ps) h in
-    cond-false (eqb p.seller s && eqb p.buyer b) (pair s b (p.lots + n) ∷ ps) (p ∷ with_leg s b n ps) (not-true (eqb p.seller s && eqb p.buyer b) k.0)
-    ∙ ap (λ zs. p ∷ zs) (with_leg_new s b n ps k.1)
+with_leg_new s b n (p ∷ ps) h = grind (arith, nat_tests, with_leg_new s b n ps)
 
 -- a leg of the last pair's seller and buyer joins it
 pub with_leg_last : (s b n l : ℕ) (ps : List Pair) → apart s b ps ≡ true → with_leg s b n (ps ++ (pair s b l ∷ [])) ≡ ps ++ (pair s b (l + n) ∷ [])
-with_leg_last s b n l [] h =
-    cond-true (eqb s s && eqb b b) (pair s b (l + n) ∷ []) (pair s b l ∷ pair s b n ∷ []) (and_from (eqb s s) (eqb b b) (eq-eqb s s refl) (eq-eqb b b refl))
-with_leg_last s b n l (p ∷ ps) h =
-    let k = and_parts (not (eqb p.seller s && eqb p.buyer b)) (apart s b ps) h in
-    cond-false (eqb p.seller s && eqb p.buyer b) (pair s b (p.lots + n) ∷ (ps ++ (pair s b l ∷ []))) (p ∷ with_leg s b n (ps ++ (pair s b l ∷ []))) (not-true (eqb p.seller s && eqb p.buyer b) k.0)
-    ∙ ap (λ zs. p ∷ zs) (with_leg_last s b n l ps k.1)
+with_leg_last s b n l [] h = grind (arith, nat_tests)
+with_leg_last s b n l (p ∷ ps) h = grind (arith, nat_tests, with_leg_last s b n l ps)

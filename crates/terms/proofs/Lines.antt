@@ -3,51 +3,35 @@ use Rattle.std.proofs.Common.{◌≡◌, ℕ, zero, suc, ◌+◌, ◌-◌, ◌<�
 use Rattle.std.specs.List.{AllByRecursion}
 use Rattle.std.proofs.lemmas.List.Sums.{sum_by-cons}
 use Rattle.std.proofs.lemmas.Bool.{cases_lt, cases_Bool, eq-eqb, ne_eqb, ltb-true, ltb-false, le-ltb, false≢true, cond-true, cond-false, cond_both}
+use Rattle.std.proofs.lemmas.Bool.Decides.{nat_tests}
 use Rattle.terms.specs.Month.{has}
 use Rattle.terms.specs.Facts.{Rising}
 use Rattle.terms.specs.Lines.{Part, part, of_account, lots_on_line, line, past, overlaps, laid}
 use Rattle.terms.specs.Pairs.{Pair, pair, sold_in, bought_in, Pairing}
 use Rattle.terms.proofs.Sums.{has_here, has_there, has_cases}
+use Rattle.terms.proofs.Rising.{sum_at}
 
 abbrev Positive : List Part → Type 0
 Positive ps = AllByRecursion (λ (p : Part). 0 < p.lots) ps
 
 past_of : (a : ℕ) (p : Part) (n k : ℕ) (ps : List Part) → k ≡ min n p.lots → cond (eqb p.account a) k 0 + of_account a (past p n ps) ≡ of_account a (p ∷ ps)
 past_of a p n k ps e =
-    let whole = sum_by-cons (λ (q : Part). cond (eqb q.account a) q.lots 0) p ps in
-    cond_both (ltb n p.lots) (part p.account (p.lots - n) ∷ ps) ps (λ x. cond (eqb p.account a) k 0 + of_account a x ≡ of_account a (p ∷ ps))
-    (λ l.
-    let less = ltb-true n p.lots l in
-    let cut = sum_by-cons (λ (q : Part). cond (eqb q.account a) q.lots 0) (part p.account (p.lots - n)) ps in
-    elim (cases_Bool (eqb p.account a)) [
-      | inl t ↦ omega (arith, whole, cut, cond-true (eqb p.account a) k 0 t, cond-true (eqb p.account a) p.lots 0 t, cond-true (eqb p.account a) (p.lots - n) 0 t)
-      | inr f ↦ omega (arith, whole, cut, cond-false (eqb p.account a) k 0 f, cond-false (eqb p.account a) p.lots 0 f, cond-false (eqb p.account a) (p.lots - n) 0 f)
-    ])
-    (λ l.
-    let more = ltb-false n p.lots l in
-    elim (cases_Bool (eqb p.account a)) [
-      | inl t ↦ omega (arith, whole, cond-true (eqb p.account a) k 0 t, cond-true (eqb p.account a) p.lots 0 t)
-      | inr f ↦ omega (arith, whole, cond-false (eqb p.account a) k 0 f, cond-false (eqb p.account a) p.lots 0 f)
-    ])
+    grind (
+      arith,
+      nat_tests,
+      sum_by-cons (λ (q : Part). cond (eqb q.account a) q.lots 0) p ps,
+      sum_by-cons (λ (q : Part). cond (eqb q.account a) q.lots 0) (part p.account (p.lots - n)) ps,
+    )
 
 past_lots : (p : Part) (n : ℕ) (ps : List Part) → min n p.lots + lots_on_line (past p n ps) ≡ lots_on_line (p ∷ ps)
 past_lots p n ps =
-    let whole = sum_by-cons (λ (q : Part). q.lots) p ps in
-    cond_both (ltb n p.lots) (part p.account (p.lots - n) ∷ ps) ps (λ x. min n p.lots + lots_on_line x ≡ lots_on_line (p ∷ ps))
-    (λ l. omega (arith, whole, ltb-true n p.lots l, sum_by-cons (λ (q : Part). q.lots) (part p.account (p.lots - n)) ps))
-    (λ l. omega (arith, whole, ltb-false n p.lots l))
+    grind (arith, nat_tests, sum_by-cons (λ (q : Part). q.lots) p ps, sum_by-cons (λ (q : Part). q.lots) (part p.account (p.lots - n)) ps)
 
 past_positive : (p : Part) (n : ℕ) (ps : List Part) → Positive ps → Positive (past p n ps)
-past_positive p n ps h =
-    cond_both (ltb n p.lots) (part p.account (p.lots - n) ∷ ps) ps Positive (λ l. (omega (arith, ltb-true n p.lots l), h)) (λ l. h)
+past_positive p n ps h = grind (arith, nat_tests)
 
 past_length : (s b : Part) (ss bs : List Part) → length (past s b.lots ss) + length (past b s.lots bs) ≤ length ss + length bs + 1
-past_length s b ss bs =
-    cond_both (ltb b.lots s.lots) (part s.account (s.lots - b.lots) ∷ ss) ss (λ x. length x + length (past b s.lots bs) ≤ length ss + length bs + 1)
-    (λ l. cond_both (ltb s.lots b.lots) (part b.account (b.lots - s.lots) ∷ bs) bs (λ y. length (part s.account (s.lots - b.lots) ∷ ss) + length y ≤ length ss + length bs + 1)
-    (λ k. absurd (omega (arith, ltb-true b.lots s.lots l, ltb-true s.lots b.lots k))) (λ k. omega arith))
-    (λ l. cond_both (ltb s.lots b.lots) (part b.account (b.lots - s.lots) ∷ bs) bs (λ y. length ss + length y ≤ length ss + length bs + 1)
-    (λ k. omega arith) (λ k. omega arith))
+past_length s b ss bs = grind (arith, nat_tests)
 
 -- where both lines have as many lots, every lot is paired
 line_nil : (ps : List Part) → Positive ps → lots_on_line ps ≡ 0 → (a : ℕ) → of_account a ps ≡ 0
@@ -91,83 +75,52 @@ overlaps_few zero ss bs h = h
 overlaps_few (suc k) [] bs h = h
 overlaps_few (suc k) (s ∷ ss) [] h = omega arith
 overlaps_few (suc k) (s ∷ ss) (b ∷ bs) h =
-    elim (cases_lt 0 (length (past s b.lots ss) + length (past b s.lots bs))) [
-      | inl l ↦ omega (arith, overlaps_few k (past s b.lots ss) (past b s.lots bs) l, past_length s b ss bs)
-      | inr z ↦ omega (arith, overlaps_none k (past s b.lots ss) (past b s.lots bs) z)
-    ]
+    grind (
+      arith,
+      overlaps_few k (past s b.lots ss) (past b s.lots bs),
+      overlaps_none k (past s b.lots ss) (past b s.lots bs),
+      past_length s b ss bs,
+    )
 
 -- the line of a function over accounts
 line_positive : (f : ℕ → ℕ) (xs : List ℕ) → Positive (line f xs)
 line_positive f [] = tt
-line_positive f (x ∷ xs) =
-    cond_both (ltb 0 (f x)) (part x (f x) ∷ line f xs) (line f xs) Positive (λ l. (ltb-true 0 (f x) l, line_positive f xs)) (λ l. line_positive f xs)
+line_positive f (x ∷ xs) = grind (arith, nat_tests, line_positive f xs)
 
 line_lots : (f : ℕ → ℕ) (xs : List ℕ) → lots_on_line (line f xs) ≡ sum_by f xs
 line_lots f [] = refl
 line_lots f (x ∷ xs) =
-    cond_both (ltb 0 (f x)) (part x (f x) ∷ line f xs) (line f xs) (λ z. lots_on_line z ≡ sum_by f (x ∷ xs))
-    (λ l. omega (arith, sum_by-cons (λ (q : Part). q.lots) (part x (f x)) (line f xs), sum_by-cons f x xs, line_lots f xs))
-    (λ l. omega (arith, sum_by-cons f x xs, line_lots f xs, ltb-false 0 (f x) l))
+    grind (arith, nat_tests, sum_by-cons (λ (q : Part). q.lots) (part x (f x)) (line f xs), sum_by-cons f x xs, line_lots f xs)
 
 line_length : (f : ℕ → ℕ) (xs : List ℕ) → length (line f xs) ≡ count_by (λ x. ltb 0 (f x)) xs
 line_length f [] = refl
-line_length f (x ∷ xs) =
-    let c = sum_by-cons (λ y. cond (ltb 0 (f y)) 1 0) x xs in
-    cond_both (ltb 0 (f x)) (part x (f x) ∷ line f xs) (line f xs) (λ z. length z ≡ count_by (λ y. ltb 0 (f y)) (x ∷ xs))
-    (λ l. omega (arith, c, cond-true {A = ℕ} (ltb 0 (f x)) 1 0 l, line_length f xs))
-    (λ l. omega (arith, c, cond-false {A = ℕ} (ltb 0 (f x)) 1 0 l, line_length f xs))
+line_length f (x ∷ xs) = grind (arith, nat_tests, sum_by-cons (λ y. cond (ltb 0 (f y)) 1 0) x xs, line_length f xs)
 
-line_other : (f : ℕ → ℕ) (xs : List ℕ) (a : ℕ) → (has a xs ≡ true → ⊥) → of_account a (line f xs) ≡ 0
-line_other f [] a n = refl
-line_other f (x ∷ xs) a n =
-    let rest = line_other f xs a (λ h. n (has_there a x xs h)) in
-    cond_both (ltb 0 (f x)) (part x (f x) ∷ line f xs) (line f xs) (λ z. of_account a z ≡ 0)
-    (λ l. omega (
+line_account : (f : ℕ → ℕ) (xs : List ℕ) (a : ℕ) → of_account a (line f xs) ≡ sum_by (λ x. cond (eqb x a) (f x) 0) xs
+line_account f [] a = refl
+line_account f (x ∷ xs) a =
+    grind (
       arith,
-      rest,
+      nat_tests,
       sum_by-cons (λ (q : Part). cond (eqb q.account a) q.lots 0) (part x (f x)) (line f xs),
-      cond-false (eqb x a) (f x) 0 (ne_eqb x a (λ e. n (subst (λ y. has y (x ∷ xs) ≡ true) e (has_here x xs)))),
-    ))
-    (λ l. rest)
-
-line_own : (f : ℕ → ℕ) (xs : List ℕ) (a : ℕ) → Rising xs → has a xs ≡ true → of_account a (line f xs) ≡ f a
-line_own f [] a r i = absurd (false≢true i)
-line_own f (x ∷ xs) a r i =
-    let cut = sum_by-cons (λ (q : Part). cond (eqb q.account a) q.lots 0) (part x (f x)) (line f xs) in
-    elim (has_cases a x xs i) [
-      | inl e ↦
-          let same = ap f e in
-          let rest = line_other f xs a (λ h. omega (arith, r.0 a h)) in
-          cond_both (ltb 0 (f x)) (part x (f x) ∷ line f xs) (line f xs) (λ z. of_account a z ≡ f a)
-          (λ l. omega (arith, cut, rest, cond-true (eqb x a) (f x) 0 (eq-eqb x a e)))
-          (λ l. omega (arith, rest, ltb-false 0 (f x) l))
-      | inr j ↦
-          let rest = line_own f xs a r.1 j in
-          cond_both (ltb 0 (f x)) (part x (f x) ∷ line f xs) (line f xs) (λ z. of_account a z ≡ f a)
-          (λ l. omega (arith, cut, rest, cond-false (eqb x a) (f x) 0 (ne_eqb x a (λ e. omega (arith, r.0 a j)))))
-          (λ l. rest)
-    ]
+      sum_by-cons (λ y. cond (eqb y a) (f y) 0) x xs,
+      line_account f xs a,
+    )
 
 -- an account has lots on one side at most
 pub count_sides : (f g : ℕ → ℕ) (xs : List ℕ) → ((a : ℕ) → (f a ≡ 0) ⊎ (g a ≡ 0)) →
     count_by (λ a. ltb 0 (f a)) xs + count_by (λ a. ltb 0 (g a)) xs ≡ count_by (λ a. ltb 0 (f a + g a)) xs
 count_sides f g [] h = refl
 count_sides f g (x ∷ xs) h =
-    let p = sum_by-cons (λ a. cond (ltb 0 (f a)) 1 0) x xs in
-    let q = sum_by-cons (λ a. cond (ltb 0 (g a)) 1 0) x xs in
-    let s = sum_by-cons (λ a. cond (ltb 0 (f a + g a)) 1 0) x xs in
-    let one : cond {A = ℕ} (ltb 0 (f x)) 1 0 + cond {A = ℕ} (ltb 0 (g x)) 1 0 ≡ cond {A = ℕ} (ltb 0 (f x + g x)) 1 0 =
-    elim (h x) [
-      | inl e ↦ omega (arith, cond-false {A = ℕ} (ltb 0 (f x)) 1 0 (le-ltb 0 (f x) (omega arith)), ap (λ n. cond {A = ℕ} (ltb 0 n) 1 0) (sum_is (f x) (g x) e))
-      | inr e ↦ omega (arith, cond-false {A = ℕ} (ltb 0 (g x)) 1 0 (le-ltb 0 (g x) (omega arith)), ap (λ n. cond {A = ℕ} (ltb 0 n) 1 0) (sum_was (f x) (g x) e))
-    ] in
-    omega (arith, p, q, s, one, count_sides f g xs h)
-  where
-    sum_is : (a b : ℕ) → a ≡ 0 → a + b ≡ b
-    sum_is a b e = omega arith
-
-    sum_was : (a b : ℕ) → b ≡ 0 → a + b ≡ a
-    sum_was a b e = omega arith
+    grind (
+      arith,
+      nat_tests,
+      h x,
+      sum_by-cons (λ a. cond (ltb 0 (f a)) 1 0) x xs,
+      sum_by-cons (λ a. cond (ltb 0 (g a)) 1 0) x xs,
+      sum_by-cons (λ a. cond (ltb 0 (f a + g a)) 1 0) x xs,
+      count_sides f g xs h,
+    )
 
 pub laid_pairing : (f g : ℕ → ℕ) (accounts : List ℕ) → Rising accounts → ((a : ℕ) → (has a accounts ≡ true → ⊥) → (f a ≡ 0) × (g a ≡ 0)) →
     ((a : ℕ) → (f a ≡ 0) ⊎ (g a ≡ 0)) → sum_by f accounts ≡ sum_by g accounts → Pairing accounts f g (laid f g accounts)
@@ -197,8 +150,4 @@ laid_pairing f g accounts r off sides e = record {
     even = line_lots f accounts ∙ e ∙ sym (line_lots g accounts)
 
     own : (h : ℕ → ℕ) (a : ℕ) → ((has a accounts ≡ true → ⊥) → h a ≡ 0) → of_account a (line h accounts) ≡ h a
-    own h a z =
-        elim (cases_Bool (has a accounts)) [
-          | inl i ↦ line_own h accounts a r i
-          | inr n ↦ let no_one : has a accounts ≡ true → ⊥ = λ y. false≢true (sym n ∙ y) in line_other h accounts a no_one ∙ sym (z no_one)
-        ]
+    own h a z = line_account h accounts a ∙ sum_at h accounts a r (λ n. z (λ y. false≢true (sym n ∙ y)))

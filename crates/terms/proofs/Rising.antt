@@ -1,11 +1,12 @@
 -- Numbers in rising order, and sums over them. Assumes nothing.
-use Rattle.std.proofs.Common.{◌≡◌, ℕ, ◌+◌, ◌<◌, ◌≤◌, Bool, true, cond, eqb, ltb, ◌⊎◌, List, [], ◌∷◌, map, length, sum_by, filter, sym, refl, ◌∙◌, subst, ap₂, inl, inr, arith}
-use Rattle.std.proofs.lemmas.List.Sums.{sum_by-cons}
+use Rattle.std.proofs.Common.{◌≡◌, ℕ, ◌+◌, ◌<◌, ◌≤◌, Bool, true, cond, eqb, ltb, ◌⊎◌, List, [], ◌∷◌, map, length, sum_by, filter, sym, refl, ◌∙◌, subst, ap₂, inl, inr, arith, ap, false}
+use Rattle.std.proofs.lemmas.List.Sums.{sum_by-cons, length-filter, count_by-le-length}
 use Rattle.std.proofs.lemmas.Bool.{cases_Bool, eqb-false, eq-eqb, ne_eqb, ltb-true, ltb-false, false≢true, cond-true, cond-false, cond_both}
+use Rattle.std.proofs.lemmas.Bool.Decides.{nat_tests}
 use Rattle.terms.specs.Lots.{Dated, Position, lots_in, lots_of_day}
 use Rattle.terms.specs.Month.{has, with_day, with_days, days_among}
 use Rattle.terms.specs.Facts.{Rising}
-use Rattle.terms.proofs.Sums.{has_here, has_there, has_cases, sum_add, sum_same}
+use Rattle.terms.proofs.Sums.{has_here, has_there, has_cases, sum_add, sum_same, sum_zero}
 use Rattle.terms.proofs.Alone.{has_with_day}
 
 -- what holds of the terms at the numbers of the list
@@ -27,61 +28,28 @@ map_same_in f g (x ∷ xs) h = ap₂ (λ a b. a ∷ b) (h x (has_here x xs)) (ma
 
 pub has_term : (f : ℕ → ℕ) (xs : List ℕ) (x : ℕ) → has x xs ≡ true → f x ≤ sum_by f xs
 has_term f [] x i = absurd (false≢true i)
-has_term f (y ∷ ys) x i =
-    elim (has_cases x y ys i) [
-      | inl e ↦ subst (λ z. f z ≤ sum_by f (y ∷ ys)) e (omega (arith, sum_by-cons f y ys))
-      | inr j ↦ omega (arith, sum_by-cons f y ys, has_term f ys x j)
-    ]
+has_term f (y ∷ ys) x i = grind (arith, nat_tests, sum_by-cons f y ys, has_term f ys x)
 
 -- a filter keeps numbers of the list, and their order
 pub kept_has : (p : ℕ → Bool) (xs : List ℕ) (x : ℕ) → has x (filter p xs) ≡ true → (has x xs ≡ true) × (p x ≡ true)
 kept_has p [] x h = absurd (false≢true h)
-kept_has p (y ∷ ys) x h =
-    elim (cases_Bool (p y)) [
-      | inl e ↦ elim (has_cases x y (filter p ys) (subst (λ zs. has x zs ≡ true) (cond-true (p y) (y ∷ filter p ys) (filter p ys) e) h)) [
-        | inl q ↦ (subst (λ z. has z (y ∷ ys) ≡ true) q (has_here y ys), subst (λ z. p z ≡ true) q e)
-        | inr j ↦ let r = kept_has p ys x j in (has_there x y ys r.0, r.1)
-      ]
-      | inr e ↦ let r = kept_has p ys x (subst (λ zs. has x zs ≡ true) (cond-false (p y) (y ∷ filter p ys) (filter p ys) e) h) in
-          (has_there x y ys r.0, r.1)
-    ]
+kept_has p (y ∷ ys) x h = grind (arith, nat_tests, kept_has p ys x)
 
 pub kept_rising : (p : ℕ → Bool) (xs : List ℕ) → Rising xs → Rising (filter p xs)
 kept_rising p [] r = tt
-kept_rising p (x ∷ xs) r =
-    cond_both (p x) (x ∷ filter p xs) (filter p xs) Rising
-    (λ e. (λ y h. r.0 y (kept_has p xs y h).0, kept_rising p xs r.1))
-    (λ e. kept_rising p xs r.1)
+kept_rising p (x ∷ xs) r = grind (arith, kept_has p xs, kept_rising p xs)
 
 pub kept_length : (p : ℕ → Bool) (xs : List ℕ) → length (filter p xs) ≤ length xs
-kept_length p [] = omega arith
-kept_length p (x ∷ xs) =
-    cond_both (p x) (x ∷ filter p xs) (filter p xs) (λ zs. length zs ≤ length (x ∷ xs))
-    (λ e. omega (arith, kept_length p xs)) (λ e. omega (arith, kept_length p xs))
+kept_length p xs = omega (arith, length-filter p xs, count_by-le-length p xs)
 
 -- the days of purchase rise
 pub day_has : (x d : ℕ) (days : List ℕ) → has x (with_day d days) ≡ true → (d ≡ x) ⊎ (has x days ≡ true)
-day_has x d [] h = elim (has_cases x d [] h) [ inl e ↦ inl e | inr j ↦ absurd (false≢true j) ]
-day_has x d (y ∷ ys) h =
-    (cond_both (ltb d y) (d ∷ y ∷ ys) (cond (eqb d y) (y ∷ ys) (y ∷ with_day d ys)) (λ zs. has x zs ≡ true → (d ≡ x) ⊎ (has x (y ∷ ys) ≡ true))
-    (λ l k. has_cases x d (y ∷ ys) k)
-    (λ l. cond_both (eqb d y) (y ∷ ys) (y ∷ with_day d ys) (λ zs. has x zs ≡ true → (d ≡ x) ⊎ (has x (y ∷ ys) ≡ true))
-    (λ q k. inr k)
-    (λ q k. elim (has_cases x y (with_day d ys) k) [
-      | inl e ↦ inr (subst (λ z. has z (y ∷ ys) ≡ true) e (has_here y ys))
-      | inr j ↦ elim (day_has x d ys j) [ inl e ↦ inl e | inr i ↦ inr (has_there x y ys i) ]
-    ]))) h
+day_has x d [] h = grind (arith, nat_tests)
+day_has x d (y ∷ ys) h = grind (arith, nat_tests, day_has x d ys)
 
 with_day_rising : (d : ℕ) (days : List ℕ) → Rising days → Rising (with_day d days)
 with_day_rising d [] r = (λ y h. absurd (false≢true h), tt)
-with_day_rising d (y ∷ ys) r =
-    cond_both (ltb d y) (d ∷ y ∷ ys) (cond (eqb d y) (y ∷ ys) (y ∷ with_day d ys)) Rising
-    (λ l. (λ x h. let k = ltb-true d y l in elim (has_cases x y ys h) [ inl e ↦ omega arith | inr j ↦ omega (arith, r.0 x j) ], r))
-    (λ l. cond_both (eqb d y) (y ∷ ys) (y ∷ with_day d ys) Rising
-    (λ q. r)
-    (λ q.
-    let k : y < d = let u = ltb-false d y l in let v = eqb-false d y q in omega arith in
-    (λ x h. elim (day_has x d ys h) [ inl e ↦ omega arith | inr j ↦ r.0 x j ], with_day_rising d ys r.1)))
+with_day_rising d (y ∷ ys) r = grind (arith, nat_tests, day_has, with_day_rising d ys)
 
 with_days_rising : (ls : List Dated) (days : List ℕ) → Rising days → Rising (with_days ls days)
 with_days_rising [] days r = r
@@ -116,39 +84,32 @@ days_within positions (b ∷ bs) a i =
       | inr j ↦ within_days (positions a).long (positions b).long (days_among positions bs) (days_within positions bs a j)
     ]
 
--- one term of a sum
-sum_none : (k n : ℕ) (xs : List ℕ) → ((x : ℕ) → has x xs ≡ true → k < x) → sum_by (λ x. cond (eqb k x) n 0) xs ≡ 0
-sum_none k n [] h = refl
-sum_none k n (x ∷ xs) h =
-    let l = h x (has_here x xs) in
-    omega (
-      arith,
-      sum_by-cons (λ y. cond (eqb k y) n 0) x xs,
-      cond-false (eqb k x) n 0 (ne_eqb k x (λ e. omega arith)),
-      sum_none k n xs (λ y i. h y (has_there y x xs i)),
-    )
+-- a sum with no term, and a sum with one term
+pub sum_no_term : (f : ℕ → ℕ) (xs : List ℕ) → ((x : ℕ) → has x xs ≡ true → f x ≡ 0) → sum_by f xs ≡ 0
+sum_no_term f xs h = sum_same_in f (λ (x : ℕ). 0) xs h ∙ sum_zero xs
+
+pub sum_one_term : (f : ℕ → ℕ) (k : ℕ) (xs : List ℕ) → Rising xs → has k xs ≡ true → ((x : ℕ) → (x ≡ k → ⊥) → f x ≡ 0) → sum_by f xs ≡ f k
+sum_one_term f k [] r i h = absurd (false≢true i)
+sum_one_term f k (x ∷ xs) r i h =
+    elim (has_cases k x xs i) [
+      | inl e ↦ omega (arith, sum_by-cons f x xs, ap f e, sum_no_term f xs (λ y j. h y (λ q. omega (arith, r.0 y j))))
+      | inr j ↦ omega (arith, sum_by-cons f x xs, h x (λ q. omega (arith, r.0 k j)), sum_one_term f k xs r.1 j h)
+    ]
 
 sum_one : (k n : ℕ) (xs : List ℕ) → Rising xs → has k xs ≡ true → sum_by (λ x. cond (eqb k x) n 0) xs ≡ n
-sum_one k n [] r i = absurd (false≢true i)
-sum_one k n (x ∷ xs) r i =
-    elim (has_cases k x xs i) [
-      | inl e ↦ omega (
-        arith,
-        sum_by-cons (λ y. cond (eqb k y) n 0) x xs,
-        cond-true (eqb k x) n 0 (eq-eqb k x (sym e)),
-        sum_none k n xs (λ y j. omega (arith, r.0 y j)),
-      )
-      | inr j ↦ let l = r.0 k j in
-          omega (arith, sum_by-cons (λ y. cond (eqb k y) n 0) x xs, cond-false (eqb k x) n 0 (ne_eqb k x (λ e. omega arith)), sum_one k n xs r.1 j)
+sum_one k n xs r i = sum_one_term (λ x. cond (eqb k x) n 0) k xs r i (λ x h. grind (arith, nat_tests)) ∙ grind (arith, nat_tests)
+
+-- the one term of a sum that a number has
+pub sum_at : (f : ℕ → ℕ) (xs : List ℕ) (a : ℕ) → Rising xs → (has a xs ≡ false → f a ≡ 0) → sum_by (λ x. cond (eqb x a) (f x) 0) xs ≡ f a
+sum_at f xs a r off =
+    elim (cases_Bool (has a xs)) [
+      | inl i ↦ sum_one_term (λ x. cond (eqb x a) (f x) 0) a xs r i (λ x n. grind (arith, nat_tests)) ∙ grind (arith, nat_tests)
+      | inr n ↦ sum_no_term (λ x. cond (eqb x a) (f x) 0) xs (λ x i. grind (arith, nat_tests)) ∙ sym (off n)
     ]
 
 -- the lots of the days add up to all lots
 pub lots_by_day : (ls : List Dated) (days : List ℕ) → Rising days → Within ls days → sum_by (λ d. lots_of_day d ls) days ≡ lots_in ls
-lots_by_day [] days r w = sum_zero_of days
-  where
-    sum_zero_of : (xs : List ℕ) → sum_by (λ (d : ℕ). lots_of_day d []) xs ≡ 0
-    sum_zero_of [] = refl
-    sum_zero_of (x ∷ xs) = omega (arith, sum_by-cons (λ (d : ℕ). lots_of_day d []) x xs, sum_zero_of xs)
+lots_by_day [] days r w = sum_zero days
 lots_by_day (l ∷ ls) days r w =
     sum_same (λ d. lots_of_day d (l ∷ ls)) (λ d. cond (eqb l.day d) l.lots 0 + lots_of_day d ls) days
     (λ d. sum_by-cons (λ (k : Dated). cond (eqb k.day d) k.lots 0) l ls)

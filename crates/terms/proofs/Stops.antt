@@ -3,6 +3,7 @@
 use Rattle.std.proofs.Common.{◌≡◌, ℕ, ◌+◌, ◌-◌, ◌<◌, ◌≤◌, Bool, true, false, cond, ltb, leb, List, [], ◌∷◌, sum_by, filter, sym, refl, ap, ◌∙◌, ap₂, inl, inr, arith}
 use Rattle.std.proofs.lemmas.List.Sums.{sum_by-cons}
 use Rattle.std.proofs.lemmas.Bool.{cases_lt, lt-ltb, le-ltb, le-leb, lt-leb, false≢true, cond-true, cond-false}
+use Rattle.std.proofs.lemmas.Bool.Decides.{nat_tests}
 use Rattle.terms.specs.Month.{Month, has, held, covered, final, lots_there, holders, purchase_days}
 use Rattle.terms.specs.OddLots.{OddLotRule, KeepsMeaning}
 use Rattle.terms.specs.Rounds.{before, group_size, class_size, amount, chosen}
@@ -15,41 +16,30 @@ use Rattle.terms.proofs.Exists.{within, chosen_le, full}
 
 -- one day's lots count, or do not
 counts : (t : ℕ → ℕ) (e d : ℕ) → e < d → cond (ltb e d) (t e) 0 ≡ t e
-counts t e d l = cond-true (ltb e d) (t e) 0 (lt-ltb e d l)
+counts t e d l = grind (arith, nat_tests)
 
 skips : (t : ℕ → ℕ) (e d : ℕ) → d ≤ e → cond (ltb e d) (t e) 0 ≡ 0
-skips t e d l = cond-false (ltb e d) (t e) 0 (le-ltb e d l)
+skips t e d l = grind (arith, nat_tests)
 
 -- no day of the list lies from `from` up to d
 pub before_same : (t : ℕ → ℕ) (days : List ℕ) (from d : ℕ) → from ≤ d → ((e : ℕ) → has e days ≡ true → e < d → e < from) →
     before t days d ≡ before t days from
 before_same t days from d l h =
-    sum_same_in (λ e. cond (ltb e d) (t e) 0) (λ e. cond (ltb e from) (t e) 0) days
-    (λ e i. elim (cases_lt e d) [
-      | inl k ↦ counts t e d k ∙ sym (counts t e from (h e i k))
-      | inr k ↦ skips t e d k ∙ sym (skips t e from (omega arith))
-    ])
+    sum_same_in (λ e. cond (ltb e d) (t e) 0) (λ e. cond (ltb e from) (t e) 0) days (λ e i. grind (arith, nat_tests, h e i))
 
 -- a day's own lots come next
 pub before_next : (t : ℕ → ℕ) (days : List ℕ) (d : ℕ) → Rising days → has d days ≡ true → before t days (d + 1) ≡ before t days d + t d
 before_next t [] d r i = absurd (false≢true i)
 before_next t (e ∷ es) d r i =
-    let s = sum_by-cons (λ x. cond (ltb x (d + 1)) (t x) 0) e es in
-    let u = sum_by-cons (λ x. cond (ltb x d) (t x) 0) e es in
-    elim (has_cases d e es i) [
-      | inl q ↦
-          let z = ap t q in
-          omega (
-            arith,
-            s,
-            u,
-            counts t e (d + 1) (omega arith),
-            skips t e d (omega arith),
-            before_same t es d (d + 1) (omega arith) (λ x j k. absurd (omega (arith, r.0 x j))),
-          )
-      | inr j ↦ let l = r.0 d j in
-          omega (arith, s, u, counts t e (d + 1) (omega arith), counts t e d l, before_next t es d r.1 j)
-    ]
+    grind (
+      arith,
+      nat_tests,
+      sum_by-cons (λ x. cond (ltb x (d + 1)) (t x) 0) e es,
+      sum_by-cons (λ x. cond (ltb x d) (t x) 0) e es,
+      r.0 d,
+      before_same t es d (d + 1) (omega arith),
+      before_next t es d r.1,
+    )
 
 -- behind the last day all lots lie before
 pub before_end : (t : ℕ → ℕ) (days : List ℕ) (from : ℕ) → ((e : ℕ) → has e days ≡ true → e < from) → before t days from ≡ sum_by t days
@@ -65,46 +55,32 @@ from_day from days = filter (λ e. leb from e) days
 -- two tests that agree on a list keep the same of it
 kept_same_in : (p q : ℕ → Bool) (xs : List ℕ) → ((x : ℕ) → has x xs ≡ true → p x ≡ q x) → filter p xs ≡ filter q xs
 kept_same_in p q [] h = refl
-kept_same_in p q (x ∷ xs) h =
-    ap₂ (λ b zs. cond b (x ∷ zs) zs) (h x (has_here x xs)) (kept_same_in p q xs (λ y i. h y (has_there y x xs i)))
+kept_same_in p q (x ∷ xs) h = grind (arith, h x (has_here x xs), kept_same_in p q xs (λ y i. h y (has_there y x xs i)))
 
 kept_none : (p : ℕ → Bool) (xs : List ℕ) → ((x : ℕ) → has x xs ≡ true → p x ≡ false) → filter p xs ≡ []
 kept_none p [] h = refl
-kept_none p (x ∷ xs) h =
-    cond-false (p x) (x ∷ filter p xs) (filter p xs) (h x (has_here x xs)) ∙ kept_none p xs (λ y i. h y (has_there y x xs i))
+kept_none p (x ∷ xs) h = grind (arith, h x (has_here x xs), kept_none p xs (λ y i. h y (has_there y x xs i)))
 
 kept_all : (p : ℕ → Bool) (xs : List ℕ) → ((x : ℕ) → has x xs ≡ true → p x ≡ true) → filter p xs ≡ xs
 kept_all p [] h = refl
-kept_all p (x ∷ xs) h =
-    cond-true (p x) (x ∷ filter p xs) (filter p xs) (h x (has_here x xs)) ∙ ap (λ zs. x ∷ zs) (kept_all p xs (λ y i. h y (has_there y x xs i)))
+kept_all p (x ∷ xs) h = grind (arith, h x (has_here x xs), kept_all p xs (λ y i. h y (has_there y x xs i)))
 
 pub from_same : (days : List ℕ) (from d : ℕ) → from ≤ d → ((e : ℕ) → has e days ≡ true → e < d → e < from) → from_day from days ≡ from_day d days
-from_same days from d l h =
-    kept_same_in (λ e. leb from e) (λ e. leb d e) days
-    (λ e i. elim (cases_lt e d) [
-      | inl k ↦ lt-leb from e (h e i k) ∙ sym (lt-leb d e k)
-      | inr k ↦ le-leb from e (omega arith) ∙ sym (le-leb d e k)
-    ])
+from_same days from d l h = kept_same_in (λ e. leb from e) (λ e. leb d e) days (λ e i. grind (arith, nat_tests, h e i))
 
 pub from_next : (days : List ℕ) (d : ℕ) → Rising days → has d days ≡ true → from_day d days ≡ d ∷ from_day (d + 1) days
 from_next [] d r i = absurd (false≢true i)
 from_next (e ∷ es) d r i =
     elim (has_cases d e es i) [
-      | inl q ↦
-          cond-true (leb d e) (e ∷ from_day d es) (from_day d es) (le-leb d e (omega arith))
-          ∙ ap₂ (λ x zs. x ∷ zs) q (from_same es d (d + 1) (omega arith) (λ x j k. absurd (omega (arith, r.0 x j))))
-          ∙ ap (λ zs. d ∷ zs) (sym (cond-false (leb (d + 1) e) (e ∷ from_day (d + 1) es) (from_day (d + 1) es) (lt-leb (d + 1) e (omega arith))))
-      | inr j ↦ let l = r.0 d j in
-          cond-false (leb d e) (e ∷ from_day d es) (from_day d es) (lt-leb d e l)
-          ∙ from_next es d r.1 j
-          ∙ ap (λ zs. d ∷ zs) (sym (cond-false (leb (d + 1) e) (e ∷ from_day (d + 1) es) (from_day (d + 1) es) (lt-leb (d + 1) e (omega arith))))
+      | inl q ↦ let rest = from_same es d (d + 1) (omega arith) (λ x j k. absurd (omega (arith, r.0 x j))) in grind (arith, nat_tests)
+      | inr j ↦ grind (arith, nat_tests, r.0 d j, from_next es d r.1 j)
     ]
 
 pub from_end : (days : List ℕ) (from : ℕ) → ((e : ℕ) → has e days ≡ true → e < from) → from_day from days ≡ []
-from_end days from h = kept_none (λ e. leb from e) days (λ e i. lt-leb from e (h e i))
+from_end days from h = kept_none (λ e. leb from e) days (λ e i. grind (arith, nat_tests, h e i))
 
 pub from_start : (days : List ℕ) → from_day 0 days ≡ days
-from_start days = kept_all (λ e. leb 0 e) days (λ e i. le-leb 0 e (omega arith))
+from_start days = kept_all (λ e. leb 0 e) days (λ e i. grind (arith, nat_tests))
 
 -- a full group gives all its lots, and an empty one none
 pub full_group : (share : OddLotRule) (m : Month) → KeepsMeaning share → Sound m → (a d : ℕ) (c : Class) →

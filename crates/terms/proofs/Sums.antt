@@ -1,35 +1,27 @@
 -- Sums over lists of numbers, and the numbers that a list has. Assumes nothing.
-use Rattle.std.proofs.Common.{◌≡◌, ℕ, ◌+◌, ◌<◌, ◌≤◌, Bool, true, false, eqb, ◌⊎◌, List, [], ◌∷◌, map, length, sum_by, filter, sym, refl, ap, ◌∙◌, subst, inl, inr, arith}
+use Rattle.std.proofs.Common.{◌≡◌, ℕ, ◌+◌, ◌<◌, ◌≤◌, Bool, true, false, ◌⊎◌, List, [], ◌∷◌, map, length, sum_by, filter, sym, refl, ap, ◌∙◌, inl, inr, arith}
 use mathlib.Core.Path.{fun_ext}
-use Rattle.std.proofs.lemmas.List.Sums.{sum_by-cons}
-use Rattle.std.proofs.lemmas.Bool.{cases_lt, cases_Bool, eqb-true, eq-eqb, or_cases, or_left, or_right, false≢true, both_ways, cond-true, cond-false}
+use Rattle.std.proofs.lemmas.List.Sums.{sum_by-cons, sum_by-le-sum_by}
+use Rattle.std.proofs.lemmas.Bool.{cases_lt, false≢true}
+use Rattle.std.proofs.lemmas.Bool.Decides.{nat_tests}
 use Rattle.terms.specs.Month.{has}
 
 pub has_here : (x : ℕ) (xs : List ℕ) → has x (x ∷ xs) ≡ true
-has_here x xs = or_left (eqb x x) (has x xs) (eq-eqb x x refl)
+has_here x xs = grind (arith, nat_tests)
 
 pub has_there : (x y : ℕ) (xs : List ℕ) → has x xs ≡ true → has x (y ∷ xs) ≡ true
-has_there x y xs h = or_right (eqb y x) (has x xs) h
+has_there x y xs h = grind (arith, nat_tests)
 
 pub has_cases : (x y : ℕ) (xs : List ℕ) → has x (y ∷ xs) ≡ true → (y ≡ x) ⊎ (has x xs ≡ true)
-has_cases x y xs h = elim (or_cases (eqb y x) (has x xs) h) [ inl e ↦ inl (eqb-true y x e) | inr k ↦ inr k ]
+has_cases x y xs h = grind (arith, nat_tests)
 
 pub has_length : (x : ℕ) (xs : List ℕ) → has x xs ≡ true → 0 < length xs
 has_length x [] h = absurd (false≢true h)
 has_length x (y ∷ ys) h = omega arith
 
-pub sum_le : (f g : ℕ → ℕ) (xs : List ℕ) → ((x : ℕ) → f x ≤ g x) → sum_by f xs ≤ sum_by g xs
-sum_le f g [] h = omega arith
-sum_le f g (x ∷ xs) h = omega (arith, sum_by-cons f x xs, sum_by-cons g x xs, h x, sum_le f g xs h)
-
 pub sum_lt : (f g : ℕ → ℕ) (xs : List ℕ) (x : ℕ) → has x xs ≡ true → ((y : ℕ) → f y ≤ g y) → f x < g x → sum_by f xs < sum_by g xs
 sum_lt f g [] x i h l = absurd (false≢true i)
-sum_lt f g (y ∷ ys) x i h l =
-    elim (has_cases x y ys i) [
-      | inl e ↦ let k : f y < g y = subst (λ z. f z < g z) (sym e) l in
-          omega (arith, sum_by-cons f y ys, sum_by-cons g y ys, sum_le f g ys h)
-      | inr j ↦ omega (arith, sum_by-cons f y ys, sum_by-cons g y ys, h y, sum_lt f g ys x j h l)
-    ]
+sum_lt f g (y ∷ ys) x i h l = grind (arith, nat_tests, sum_by-cons f y ys, sum_by-cons g y ys, h y, sum_by-le-sum_by f g ys h, sum_lt f g ys x)
 
 -- where one sum is smaller, some term is
 pub sum_gap : (f g : ℕ → ℕ) (xs : List ℕ) → sum_by f xs < sum_by g xs → (x : ℕ) × (has x xs ≡ true) × (f x < g x)
@@ -37,9 +29,7 @@ sum_gap f g [] h = absurd (omega arith)
 sum_gap f g (x ∷ xs) h =
     elim (cases_lt (f x) (g x)) [
       | inl l ↦ (x, has_here x xs, l)
-      | inr k ↦
-          let r : (y : ℕ) × (has y xs ≡ true) × (f y < g y) = sum_gap f g xs (omega (arith, sum_by-cons f x xs, sum_by-cons g x xs)) in
-          (r.0, has_there r.0 x xs r.1, r.2)
+      | inr k ↦ let r = sum_gap f g xs (omega (arith, sum_by-cons f x xs, sum_by-cons g x xs)) in (r.0, has_there r.0 x xs r.1, r.2)
     ]
 
 pub sum_add : (f g : ℕ → ℕ) (xs : List ℕ) → sum_by (λ x. f x + g x) xs ≡ sum_by f xs + sum_by g xs
@@ -48,7 +38,7 @@ sum_add f g (x ∷ xs) = omega (arith, sum_by-cons f x xs, sum_by-cons g x xs, s
 
 pub sum_zero : (xs : List ℕ) → sum_by (λ (x : ℕ). 0) xs ≡ 0
 sum_zero [] = refl
-sum_zero (x ∷ xs) = sum_by-cons (λ (y : ℕ). 0) x xs ∙ ap (λ n. 0 + n) (sum_zero xs)
+sum_zero (x ∷ xs) = sum_zero xs
 
 pub sum_same : (f g : ℕ → ℕ) (xs : List ℕ) → ((x : ℕ) → f x ≡ g x) → sum_by f xs ≡ sum_by g xs
 sum_same f g xs h = ap (λ (k : ℕ → ℕ). sum_by k xs) (fun_ext h)
@@ -56,39 +46,17 @@ sum_same f g xs h = ap (λ (k : ℕ → ℕ). sum_by k xs) (fun_ext h)
 pub sum_swap : (f : ℕ → ℕ → ℕ) (xs ys : List ℕ) → sum_by (λ x. sum_by (f x) ys) xs ≡ sum_by (λ y. sum_by (λ x. f x y) xs) ys
 sum_swap f [] ys = sym (sum_zero ys)
 sum_swap f (x ∷ xs) ys =
-    sum_by-cons (λ z. sum_by (f z) ys) x xs
-    ∙ ap (λ n. sum_by (f x) ys + n) (sum_swap f xs ys)
-    ∙ sym (sum_add (f x) (λ y. sum_by (λ z. f z y) xs) ys)
-    ∙ sym (sum_same (λ y. sum_by (λ z. f z y) (x ∷ xs)) (λ y. f x y + sum_by (λ z. f z y) xs) ys (λ y. sum_by-cons (λ z. f z y) x xs))
+    simp sum_by-cons (ap (λ n. sum_by (f x) ys + n) (sum_swap f xs ys) ∙ sym (sum_add (f x) (λ y. sum_by (λ z. f z y) xs) ys))
 
 -- what a filter leaves out adds nothing
 pub sum_kept : (f : ℕ → ℕ) (p : ℕ → Bool) (xs : List ℕ) → ((x : ℕ) → p x ≡ false → f x ≡ 0) → sum_by f (filter p xs) ≡ sum_by f xs
 sum_kept f p [] h = refl
-sum_kept f p (x ∷ xs) h =
-    elim (cases_Bool (p x)) [
-      | inl e ↦ ap (sum_by f) (cond-true (p x) (x ∷ filter p xs) (filter p xs) e)
-          ∙ sum_by-cons f x (filter p xs) ∙ ap (λ n. f x + n) (sum_kept f p xs h) ∙ sym (sum_by-cons f x xs)
-      | inr e ↦ let z : f x ≡ 0 = h x e in
-          ap (sum_by f) (cond-false (p x) (x ∷ filter p xs) (filter p xs) e) ∙ omega (arith, sum_kept f p xs h, sum_by-cons f x xs)
-    ]
+sum_kept f p (x ∷ xs) h = grind (arith, sum_by-cons f x xs, sum_by-cons f x (filter p xs), sum_kept f p xs h, h x)
 
 pub has_kept : (p : ℕ → Bool) (xs : List ℕ) (x : ℕ) → has x xs ≡ true → p x ≡ true → has x (filter p xs) ≡ true
 has_kept p [] x h k = h
-has_kept p (y ∷ ys) x h k =
-    elim (cases_Bool (p y)) [
-      | inl e ↦ ap (has x) (cond-true (p y) (y ∷ filter p ys) (filter p ys) e) ∙ elim (has_cases x y ys h) [
-        | inl i ↦ or_left (eqb y x) (has x (filter p ys)) (eq-eqb y x i)
-        | inr j ↦ has_there x y (filter p ys) (has_kept p ys x j k)
-      ]
-      | inr e ↦ ap (has x) (cond-false (p y) (y ∷ filter p ys) (filter p ys) e) ∙ elim (has_cases x y ys h) [
-        | inl i ↦ absurd (both_ways (p x) (subst (λ z. p z ≡ false) i e) k)
-        | inr j ↦ has_kept p ys x j k
-      ]
-    ]
+has_kept p (y ∷ ys) x h k = grind (arith, nat_tests, has_kept p ys x)
 
 pub map_agrees : (f g : ℕ → ℕ) (xs : List ℕ) (x : ℕ) → map f xs ≡ map g xs → has x xs ≡ true → f x ≡ g x
 map_agrees f g [] x e h = absurd (false≢true h)
-map_agrees f g (y ∷ ys) x e h =
-    let first : f y ≡ g y = cc in
-    let rest : map f ys ≡ map g ys = cc in
-    elim (has_cases x y ys h) [ inl k ↦ subst (λ z. f z ≡ g z) k first | inr j ↦ map_agrees f g ys x rest j ]
+map_agrees f g (y ∷ ys) x e h = grind (arith, nat_tests, map_agrees f g ys x)

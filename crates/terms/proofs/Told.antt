@@ -4,6 +4,7 @@ use mathlib.Core.Path.{fun_ext}
 use Rattle.std.specs.List.{flat_map}
 use Rattle.std.proofs.lemmas.List.Sums.{sum_by-cons, sum_by-append}
 use Rattle.std.proofs.lemmas.Bool.{cases_lt, cases_Bool, cases_eq, eqb-true, eqb-false, eq-eqb, ne_eqb, and_from, and_left, and_right, false≢true, cond-true, cond-false, cond_both}
+use Rattle.std.proofs.lemmas.Bool.Decides.{nat_tests}
 use Rattle.terms.specs.Month.{Month, has, held, covered, final, lots_there, purchase_days}
 use Rattle.terms.specs.OddLots.{OddLotRule, KeepsMeaning}
 use Rattle.terms.specs.Selection.{Selection, FiveRules, letter, told_by, told, taken_from}
@@ -16,21 +17,9 @@ use Rattle.terms.specs.declared.rows.Class.TheVariants.{Declared, Undeclared, Vi
 use Rattle.terms.specs.declared.rows.Row.{Row}
 use Rattle.terms.specs.declared.rows.Row.TheVariants.{ClassLots, Leg}
 use Rattle.terms.proofs.Sums.{has_cases, sum_zero}
-use Rattle.terms.proofs.Rising.{sum_same_in, days_rising}
+use Rattle.terms.proofs.Rising.{sum_same_in, days_rising, sum_no_term, sum_one_term}
 use Rattle.terms.proofs.Alone.{there_known, there_day}
 use Rattle.terms.proofs.Exists.{within, chosen_keeps}
-
--- a sum with no term, and a sum with one term, over numbers that rise
-sum_no_term : (f : ℕ → ℕ) (xs : List ℕ) → ((x : ℕ) → has x xs ≡ true → f x ≡ 0) → sum_by f xs ≡ 0
-sum_no_term f xs h = sum_same_in f (λ (x : ℕ). 0) xs h ∙ sum_zero xs
-
-sum_one_term : (f : ℕ → ℕ) (k : ℕ) (xs : List ℕ) → Rising xs → has k xs ≡ true → ((x : ℕ) → (x ≡ k → ⊥) → f x ≡ 0) → sum_by f xs ≡ f k
-sum_one_term f k [] r i h = absurd (false≢true i)
-sum_one_term f k (x ∷ xs) r i h =
-    elim (has_cases k x xs i) [
-      | inl e ↦ omega (arith, sum_by-cons f x xs, ap f e, sum_no_term f xs (λ y j. h y (λ q. omega (arith, r.0 y j))))
-      | inr j ↦ omega (arith, sum_by-cons f x xs, h x (λ q. omega (arith, r.0 k j)), sum_one_term f k xs r.1 j h)
-    ]
 
 -- rows listed one behind the other
 told_append : (xs ys : List Row) (a d : ℕ) (c : Class) → told (xs ++ ys) a d c ≡ told xs a d c + told ys a d c
@@ -48,11 +37,7 @@ abbrev here : ℕ → ℕ → Class → ℕ → ℕ → Class → Bool
 here a' d' c' a d c = eqb a' a && eqb d' d && eqb (letter c') (letter c)
 
 told_row : (c' : Class) (a' d' n a d : ℕ) (c : Class) → told (lots_row c' a' d' n) a d c ≡ cond (here a' d' c' a d c) n 0
-told_row c' a' d' n a d c =
-    cond_both (eqb n 0) [] (ClassLots c' a' d' n ∷ []) (λ rows. told rows a d c ≡ cond (here a' d' c' a d c) n 0)
-    (λ e. let z : n ≡ 0 = eqb-true n 0 e in
-    cond_both (here a' d' c' a d c) n 0 (λ v. ◌≡◌ {A = ℕ} 0 v) (λ q. sym z) (λ q. refl))
-    (λ e. omega arith)
+told_row c' a' d' n a d c = grind (arith, nat_tests)
 
 letter_same : (c' c : Class) → eqb (letter c') (letter c) ≡ true → c' ≡ c
 letter_same Declared Declared h = refl
@@ -64,9 +49,6 @@ letter_same Undeclared Virtual h = absurd (false≢true h)
 letter_same Virtual Declared h = absurd (false≢true h)
 letter_same Virtual Undeclared h = absurd (false≢true h)
 letter_same Virtual Virtual h = refl
-
-elsewhere : (c' : Class) (a' d' n a d : ℕ) (c : Class) → here a' d' c' a d c ≡ false → told (lots_row c' a' d' n) a d c ≡ 0
-elsewhere c' a' d' n a d c e = told_row c' a' d' n a d c ∙ cond-false (here a' d' c' a d c) n 0 e
 
 -- the rows of one class, by day and account
 abbrev class_rows : Selection → Class → List ℕ → List ℕ → List Row
@@ -88,29 +70,20 @@ module _ (sel : Selection) (accounts days : List ℕ) (ra : Rising accounts) (rd
       (λ y j. group_sum c' y c ∙ sum_no_term (λ x. told (lots_row c' x y (sel x y c')) a d c) accounts (λ x i. h x y))
 
   class_apart : (c' c : Class) → eqb (letter c') (letter c) ≡ false → told (class_rows sel c' accounts days) a d c ≡ 0
-  class_apart c' c e =
-      class_none c' c (λ x y. elsewhere c' x y (sel x y c') a d c (and_right (eqb x a && eqb y d) (eqb (letter c') (letter c)) e))
+  class_apart c' c e = class_none c' c (λ x y. grind (arith, nat_tests, told_row c' x y (sel x y c') a d c))
 
   row_other_day : (c : Class) (x y : ℕ) → (y ≡ d → ⊥) → told (lots_row c x y (sel x y c)) a d c ≡ 0
-  row_other_day c x y ne =
-      elsewhere c x y (sel x y c) a d c
-      (and_left (eqb x a && eqb y d) (eqb (letter c) (letter c)) (and_right (eqb x a) (eqb y d) (ne_eqb y d ne)))
+  row_other_day c x y ne = grind (arith, nat_tests, ne, told_row c x y (sel x y c) a d c)
 
   row_other_account : (c : Class) (x y : ℕ) → (x ≡ a → ⊥) → told (lots_row c x y (sel x y c)) a d c ≡ 0
-  row_other_account c x y ne =
-      elsewhere c x y (sel x y c) a d c
-      (and_left (eqb x a && eqb y d) (eqb (letter c) (letter c)) (and_left (eqb x a) (eqb y d) (ne_eqb x a ne)))
+  row_other_account c x y ne = grind (arith, nat_tests, ne, told_row c x y (sel x y c) a d c)
 
   other_day : (c : Class) (y : ℕ) → (y ≡ d → ⊥) → told (group_rows sel c accounts y) a d c ≡ 0
   other_day c y ne =
       group_sum c y c ∙ sum_no_term (λ x. told (lots_row c x y (sel x y c)) a d c) accounts (λ x i. row_other_day c x y ne)
 
   own_row : (c : Class) → told (lots_row c a d (sel a d c)) a d c ≡ sel a d c
-  own_row c =
-      told_row c a d (sel a d c) a d c
-      ∙ cond-true (here a d c a d c) (sel a d c) 0
-      (and_from (eqb a a && eqb d d) (eqb (letter c) (letter c)) (and_from (eqb a a) (eqb d d) (eq-eqb a a refl) (eq-eqb d d refl))
-      (eq-eqb (letter c) (letter c) refl))
+  own_row c = grind (arith, nat_tests, told_row c a d (sel a d c) a d c)
 
   -- rows of its own class tell its lots
   class_own : (c : Class) → (0 < sel a d c → (has a accounts ≡ true) × (has d days ≡ true)) → told (class_rows sel c accounts days) a d c ≡ sel a d c
@@ -165,19 +138,11 @@ module _ (sel : Selection) (accounts days : List ℕ) (ra : Rising accounts) (rd
 -- a class with lots is one of the two whose rows are written
 there_class : (m : Month) (a d : ℕ) (c : Class) → 0 < lots_there m a d c → (Declared ≡ c) ⊎ (other_class m ≡ c)
 there_class m a d Declared l = inl refl
-there_class m a d Undeclared l =
-    elim (cases_Bool (final m)) [
-      | inl e ↦ absurd (omega (arith, cond-true (final m) 0 (held m a d - covered m a d) e))
-      | inr e ↦ inr (cond-false (final m) Virtual Undeclared e)
-    ]
-there_class m a d Virtual l =
-    elim (cases_Bool (final m)) [
-      | inl e ↦ inr (cond-true (final m) Virtual Undeclared e)
-      | inr e ↦ absurd (omega (arith, cond-false (final m) (held m a d - covered m a d) 0 e))
-    ]
+there_class m a d Undeclared l = grind arith
+there_class m a d Virtual l = grind arith
 
 other_apart : (m : Month) → eqb (letter Declared) (letter (other_class m)) ≡ false
-other_apart m = cond_both (final m) Virtual Undeclared (λ o. eqb (letter Declared) (letter o) ≡ false) (λ e. refl) (λ e. refl)
+other_apart m = grind arith
 
 -- rows of a selection tell it, before rows that tell nothing
 pub told_selection : (m : Month) (sel : Selection) → Rising m.accounts → ((a d : ℕ) (c : Class) → sel a d c ≤ lots_there m a d c) →
@@ -196,7 +161,7 @@ told_selection m sel r w rest z =
 
 -- legs tell nothing
 told_leg : (p : Piece) (b n a d : ℕ) (c : Class) → told (leg_row p b n) a d c ≡ 0
-told_leg p b n a d c = cond_both (eqb n 0) [] (Leg p.seller b n p.bond ∷ []) (λ rows. told rows a d c ≡ 0) (λ e. refl) (λ e. refl)
+told_leg p b n a d c = grind arith
 
 told_piece : (p : Piece) (n : ℕ) (bs : List Part) (a d : ℕ) (c : Class) → told (piece_legs p n bs) a d c ≡ 0
 told_piece p n [] a d c = refl

@@ -1,6 +1,6 @@
 -- The worked month: both draws of its run. Assumes nothing.
-use Rattle.std.proofs.Common.{◌≡◌, ℕ, zero, suc, ◌<◌, Bool, true, false, not, ◌&&◌, ◌||◌, eqb, ◌⊎◌, get_or, take, sym, refl, ap, subst, inl, inr, arith, lit<, rules}
-use Rattle.std.proofs.lemmas.Bool.{and_parts, or_cases, eqb-true, cases_eq, both_ways, not-true}
+use Rattle.std.proofs.Common.{◌≡◌, ℕ, zero, suc, ◌<◌, Bool, true, false, not, ◌&&◌, ◌||◌, eqb, ◌⊎◌, get_or, take, sym, refl, ap, subst, inl, inr, arith, lit<, rules, ◌∙◌}
+use Rattle.std.proofs.lemmas.Bool.{and_parts, or_cases, eqb-true, cases_eq, both_ways, not-true, agree_below_at}
 use Rattle.terms.specs.Calendar.{weekdays, NextBusinessDay}
 use Rattle.terms.specs.OddLots.{running}
 use Rattle.terms.specs.Selection.{FiveRules, told}
@@ -44,17 +44,6 @@ first_law = draw_law setup_m (struck (take 6 calls_m) (take 6 answers_m)) rows_m
 second_law : DrawLaw setup_m (struck (take 20 calls_m) (take 20 answers_m)) second_rows_m
 second_law = draw_law setup_m (struck (take 20 calls_m) (take 20 answers_m)) second_rows_m second_m second_left second_keeps second_pairs
 
--- a test of each number below a bound
-abbrev below : ℕ → (ℕ → Bool) → Bool
-below zero p = true
-below (suc n) p = p n && below n p
-
-below_at : (n : ℕ) (p : ℕ → Bool) (k : ℕ) → below n p ≡ true → k < n → p k ≡ true
-below_at zero p k h l = absurd (omega arith)
-below_at (suc n) p k h l =
-    let b = and_parts (p n) (below n p) h in
-    elim (cases_eq n k) [ inl e ↦ subst (λ x. p x ≡ true) e b.0 | inr ne ↦ below_at n p k b.1 (omega arith) ]
-
 abbrev is_draw : Call → Bool
 is_draw (Trade b s n) = false
 is_draw (DeclarePurchase t a n) = false
@@ -70,11 +59,8 @@ is_draw NextDay = false
 
 places : (k : ℕ) → k < 21 → get_or calls_m k Draw ≡ Draw → (k ≡ 6) ⊎ (k ≡ 20)
 places k l e =
-    elim (or_cases (not (is_draw (get_or calls_m k Draw))) (eqb k 6 || eqb k 20)
-    (below_at 21 (λ x. not (is_draw (get_or calls_m x Draw)) || (eqb x 6 || eqb x 20)) k refl l)) [
-      | inl n ↦ absurd (both_ways (is_draw (get_or calls_m k Draw)) (not-true (is_draw (get_or calls_m k Draw)) n) (ap is_draw e))
-      | inr p ↦ elim (or_cases (eqb k 6) (eqb k 20) p) [ inl q ↦ inl (eqb-true k 6 q) | inr q ↦ inr (eqb-true k 20 q) ]
-    ]
+    let here = agree_below_at (λ x. is_draw (get_or calls_m x Draw)) (λ x. eqb x 6 || eqb x 20) 21 k refl l in
+    elim (or_cases (eqb k 6) (eqb k 20) (sym here ∙ ap is_draw e)) [ inl q ↦ inl (eqb-true k 6 q) | inr q ↦ inr (eqb-true k 20 q) ]
 
 pub law_m : LawM
 law_m = record {
