@@ -3,6 +3,8 @@
 use Rattle.std.proofs.Common.{◌≡◌, ℕ, ◌+◌, ◌<◌, ◌≤◌, Bool, true, false, not, ◌&&◌, ◌||◌, eqb, ltb, leb, List, [], ◌∷◌, map, length, sum_by, filter, refl, subst, ap₂, inl, inr, arith}
 use Rattle.std.proofs.lemmas.List.Sums.{sum_by-cons}
 use Rattle.std.proofs.lemmas.Bool.{cases_lt, cases_Bool, eqb-true, leb-true, ltb-true, lt-ltb, and_parts, or_cases, false≢true, both_ways, not-true, cond-false}
+use Rattle.std.proofs.lemmas.Bool.Decides.{nat_tests}
+use Rattle.std.specs.List.{list_all}
 use Rattle.terms.specs.Month.{Month, has, lots_there, holders, purchase_days, effective_sale}
 use Rattle.terms.specs.OddLots.{OddLotRule}
 use Rattle.terms.specs.Selection.{Selection, FiveRules, letter, told_by, told, taken_from, taken_there}
@@ -13,25 +15,19 @@ use Rattle.terms.specs.declared.rows.Row.TheVariants.{ClassLots, Leg, Refused}
 use Rattle.terms.proofs.Sums.{has_cases}
 use Rattle.terms.proofs.Alone.{there_known, there_day}
 
--- a test of each number of a list
-abbrev pub all : (ℕ → Bool) → List ℕ → Bool
-all p [] = true
-all p (x ∷ xs) = p x && all p xs
-
-all_has : (p : ℕ → Bool) (xs : List ℕ) (x : ℕ) → all p xs ≡ true → has x xs ≡ true → p x ≡ true
+-- a test of each number of a list, at one of them
+all_has : (p : ℕ → Bool) (xs : List ℕ) (x : ℕ) → list_all p xs ≡ true → has x xs ≡ true → p x ≡ true
 all_has p [] x h i = absurd (false≢true i)
-all_has p (y ∷ ys) x h i =
-    let k = and_parts (p y) (all p ys) h in
-    elim (has_cases x y ys i) [ inl e ↦ subst (λ z. p z ≡ true) e k.0 | inr j ↦ all_has p ys x k.1 j ]
+all_has p (y ∷ ys) x h i = grind (arith, nat_tests, all_has p ys x)
 
 -- a test of each class
 abbrev pub classes : (Class → Bool) → Bool
 classes p = p Declared && (p Undeclared && p Virtual)
 
 classes_at : (p : Class → Bool) → classes p ≡ true → (c : Class) → p c ≡ true
-classes_at p h Declared = (and_parts (p Declared) (p Undeclared && p Virtual) h).0
-classes_at p h Undeclared = (and_parts (p Undeclared) (p Virtual) (and_parts (p Declared) (p Undeclared && p Virtual) h).1).0
-classes_at p h Virtual = (and_parts (p Undeclared) (p Virtual) (and_parts (p Declared) (p Undeclared && p Virtual) h).1).1
+classes_at p h Declared = grind arith
+classes_at p h Undeclared = grind arith
+classes_at p h Virtual = grind arith
 
 abbrev pub same_list : List ℕ → List ℕ → Bool
 same_list [] [] = true
@@ -43,9 +39,7 @@ same_list_eq : (xs ys : List ℕ) → same_list xs ys ≡ true → xs ≡ ys
 same_list_eq [] [] h = refl
 same_list_eq [] (y ∷ ys) h = absurd (false≢true h)
 same_list_eq (x ∷ xs) [] h = absurd (false≢true h)
-same_list_eq (x ∷ xs) (y ∷ ys) h =
-    let k = and_parts (eqb x y) (same_list xs ys) h in
-    ap₂ (λ a b. a ∷ b) (eqb-true x y k.0) (same_list_eq xs ys k.1)
+same_list_eq (x ∷ xs) (y ∷ ys) h = grind (arith, nat_tests, same_list_eq xs ys)
 
 -- the rows name accounts and days of the month
 abbrev pub inside : Month → List Row → Bool
@@ -57,38 +51,21 @@ inside m (Refused k ∷ rows) = inside m rows
 told_inside : (m : Month) (rows : List Row) (a d : ℕ) (c : Class) → inside m rows ≡ true → 0 < told rows a d c →
     (has a m.accounts ≡ true) × (has d (purchase_days m) ≡ true)
 told_inside m [] a d c h l = absurd (omega arith)
-told_inside m (Leg s b n bond ∷ rows) a d c h l =
-    told_inside m rows a d c h (omega (arith, sum_by-cons (λ (r : Row). told_by r a d c) (Leg s b n bond) rows))
-told_inside m (Refused k ∷ rows) a d c h l = told_inside m rows a d c h (omega (arith, sum_by-cons (λ (r : Row). told_by r a d c) (Refused k) rows))
+told_inside m (Leg s b n bond ∷ rows) a d c h l = told_inside m rows a d c h l
+told_inside m (Refused k ∷ rows) a d c h l = told_inside m rows a d c h l
 told_inside m (ClassLots c' a' d' n ∷ rows) a d c h l =
-    let k = and_parts (has a' m.accounts && has d' (purchase_days m)) (inside m rows) h in
-    let i = and_parts (has a' m.accounts) (has d' (purchase_days m)) k.0 in
-    elim (cases_Bool (eqb a' a && eqb d' d && eqb (letter c') (letter c))) [
-      | inl e ↦
-          let e₁ = and_parts (eqb a' a && eqb d' d) (eqb (letter c') (letter c)) e in
-          let e₂ = and_parts (eqb a' a) (eqb d' d) e₁.0 in
-          (subst (λ x. has x m.accounts ≡ true) (eqb-true a' a e₂.0) i.0, subst (λ x. has x (purchase_days m) ≡ true) (eqb-true d' d e₂.1) i.1)
-      | inr e ↦ told_inside m rows a d c k.1
-          (omega (
-            arith,
-            sum_by-cons (λ (r : Row). told_by r a d c) (ClassLots c' a' d' n) rows,
-            cond-false (eqb a' a && eqb d' d && eqb (letter c') (letter c)) n 0 e,
-          ))
-    ]
+    grind (arith, nat_tests, sum_by-cons (λ (r : Row). told_by r a d c) (ClassLots c' a' d' n) rows, told_inside m rows a d c)
 
 -- some number passes where a filter keeps any
 kept_some : (p : ℕ → Bool) (xs : List ℕ) → 0 < length (filter p xs) → (x : ℕ) × (p x ≡ true)
 kept_some p [] h = absurd (omega arith)
 kept_some p (y ∷ ys) h =
-    elim (cases_Bool (p y)) [
-      | inl e ↦ (y, e)
-      | inr e ↦ kept_some p ys (subst (λ zs. 0 < length zs) (cond-false (p y) (y ∷ filter p ys) (filter p ys) e) h)
-    ]
+    elim (cases_Bool (p y)) [ inl e ↦ (y, e) | inr e ↦ kept_some p ys (grind arith) ]
 
 -- the tests of the rules, one by one
 module _ (share : OddLotRule) (m : Month) (sel : Selection) where
   abbrev pub everywhere : (ℕ → ℕ → Bool) → Bool
-  everywhere p = all (λ a. all (λ d. p a d) (purchase_days m)) m.accounts
+  everywhere p = list_all (λ a. list_all (λ d. p a d) (purchase_days m)) m.accounts
 
   abbrev pub within_ok : Class → Bool
   within_ok c = everywhere (λ a d. leb (sel a d c) (lots_there m a d c))
@@ -106,58 +83,55 @@ module _ (share : OddLotRule) (m : Month) (sel : Selection) where
   oldest_ok c = everywhere (λ a d. eqb (sel a d c) 0 || older_taken c d)
 
   abbrev pub shared_ok : Class → Bool
-  shared_ok c = all (λ d. not (ltb 0 (length (holders m c d))) ||
+  shared_ok c = list_all (λ d. not (ltb 0 (length (holders m c d))) ||
       same_list (map (λ a. sel a d c) (holders m c d)) (share (map (λ a. lots_there m a d c) (holders m c d)) (taken_there m sel c d))) (purchase_days m)
 
   everywhere_at : (p : ℕ → ℕ → Bool) (a d : ℕ) → everywhere p ≡ true → has a m.accounts ≡ true → has d (purchase_days m) ≡ true → p a d ≡ true
-  everywhere_at p a d h i j = all_has (λ y. p a y) (purchase_days m) d (all_has (λ x. all (λ y. p x y) (purchase_days m)) m.accounts a h i) j
+  everywhere_at p a d h i j = all_has (λ y. p a y) (purchase_days m) d (all_has (λ x. list_all (λ y. p x y) (purchase_days m)) m.accounts a h i) j
 
   -- what is tested wherever there are lots holds everywhere
   taken_at : (a d : ℕ) (c : Class) → (0 < lots_there m a d c → leb (lots_there m a d c) (sel a d c) ≡ true) → lots_there m a d c ≤ sel a d c
-  taken_at a d c h =
-      elim (cases_lt 0 (lots_there m a d c)) [ inl l ↦ leb-true (lots_there m a d c) (sel a d c) (h l) | inr z ↦ omega arith ]
+  taken_at a d c h = grind (arith, nat_tests, h)
 
   module _ (in-month : (a d : ℕ) (c : Class) → 0 < sel a d c → (has a m.accounts ≡ true) × (has d (purchase_days m) ≡ true)) where
     within_at : classes within_ok ≡ true → (a d : ℕ) (c : Class) → sel a d c ≤ lots_there m a d c
     within_at h a d c =
-        elim (cases_lt 0 (sel a d c)) [
-          | inl l ↦ let i = in-month a d c l in
-              leb-true (sel a d c) (lots_there m a d c)
-              (everywhere_at (λ x y. leb (sel x y c) (lots_there m x y c)) a d (classes_at within_ok h c) i.0 i.1)
-          | inr z ↦ omega arith
-        ]
+            grind (
+              arith,
+              nat_tests,
+              in-month a d c,
+              everywhere_at (λ x y. leb (sel x y c) (lots_there m x y c)) a d (classes_at within_ok h c),
+            )
 
     other_in : (a d : ℕ) → 0 < sel a d Undeclared + sel a d Virtual → (has a m.accounts ≡ true) × (has d (purchase_days m) ≡ true)
-    other_in a d l =
-        elim (cases_lt 0 (sel a d Undeclared)) [ inl k ↦ in-month a d Undeclared k | inr z ↦ in-month a d Virtual (omega arith) ]
+    other_in a d l = grind (arith, in-month a d Undeclared, in-month a d Virtual)
 
     declared_at : (none_other || all_taken Declared) ≡ true → (a d a' d' : ℕ) → 0 < sel a d Undeclared + sel a d Virtual →
         lots_there m a' d' Declared ≤ sel a' d' Declared
     declared_at h a d a' d' l =
-        elim (or_cases none_other (all_taken Declared) h) [
-          | inl none ↦ let i = other_in a d l in
-              absurd (omega (
-                arith,
-                eqb-true (sel a d Undeclared + sel a d Virtual) 0
-                    (everywhere_at (λ x y. eqb (sel x y Undeclared + sel x y Virtual) 0) a d none i.0 i.1),
-              ))
-          | inr taken ↦ taken_at a' d' Declared (λ k.
-              everywhere_at (λ x y. leb (lots_there m x y Declared) (sel x y Declared)) a' d' taken (there_known m a' d' Declared k) (there_day m a' d' Declared k))
-        ]
+            elim (or_cases none_other (all_taken Declared) h) [
+              | inl none ↦
+                  grind (
+                    arith,
+                    nat_tests,
+                    other_in a d l,
+                    everywhere_at (λ x y. eqb (sel x y Undeclared + sel x y Virtual) 0) a d none,
+                  )
+              | inr taken ↦ taken_at a' d' Declared (λ k.
+                  everywhere_at (λ x y. leb (lots_there m x y Declared) (sel x y Declared)) a' d' taken (there_known m a' d' Declared k) (there_day m a' d' Declared k))
+            ]
 
     oldest_at : classes oldest_ok ≡ true → (c : Class) (a d a' d' : ℕ) → d' < d → 0 < sel a d c → lots_there m a' d' c ≤ sel a' d' c
     oldest_at h c a d a' d' older l =
-        let i = in-month a d c l in
-        elim (or_cases (eqb (sel a d c) 0) (older_taken c d)
-        (everywhere_at (λ x y. eqb (sel x y c) 0 || older_taken c y) a d (classes_at oldest_ok h c) i.0 i.1)) [
-          | inl z ↦ absurd (omega (arith, eqb-true (sel a d c) 0 z))
-          | inr taken ↦ taken_at a' d' c (λ k.
-              elim (or_cases (not (ltb d' d)) (leb (lots_there m a' d' c) (sel a' d' c))
-              (everywhere_at (λ x y. not (ltb y d) || leb (lots_there m x y c) (sel x y c)) a' d' taken (there_known m a' d' c k) (there_day m a' d' c k))) [
-                | inl n ↦ absurd (both_ways (ltb d' d) (not-true (ltb d' d) n) (lt-ltb d' d older))
-                | inr t ↦ t
-              ])
-        ]
+            let i = in-month a d c l in
+            let taken : older_taken c d ≡ true =
+            grind (arith, nat_tests, everywhere_at (λ x y. eqb (sel x y c) 0 || older_taken c y) a d (classes_at oldest_ok h c) i.0 i.1) in
+            taken_at a' d' c (λ k.
+            grind (
+              arith,
+              nat_tests,
+              everywhere_at (λ x y. not (ltb y d) || leb (lots_there m x y c) (sel x y c)) a' d' taken (there_known m a' d' c k) (there_day m a' d' c k),
+            ))
 
     shared_at : classes shared_ok ≡ true → (c : Class) (d : ℕ) → 0 < length (holders m c d) →
         map (λ a. sel a d c) (holders m c d) ≡ share (map (λ a. lots_there m a d c) (holders m c d)) (taken_there m sel c d)

@@ -15,6 +15,7 @@ use Rattle.terms.proofs.Exists.{classes_held, held_all, within, chosen_keeps}
 use Rattle.terms.proofs.Told.{told_round}
 use Rattle.terms.proofs.Deliveries.{round_paired}
 use Rattle.terms.proofs.LegCount.{few_legs_of}
+use Rattle.terms.proofs.Rising.{sum_no_term}
 
 module _ (share : OddLotRule) (m : Month) (keeps : KeepsMeaning share) (sound : Sound m) where
   -- no more lots are taken from an account than it holds
@@ -31,14 +32,10 @@ module _ (share : OddLotRule) (m : Month) (keeps : KeepsMeaning share) (sound : 
 
   pub taken_within : (a : ℕ) → taken_from m (chosen share m) a ≤ lots_in (m.positions a).long
   taken_within a =
-      elim (cases_Bool (has a m.accounts)) [
-        | inl i ↦ omega (arith, taken_held a, held_all m a i)
-        | inr n ↦
-            let none : sum_by (held m a) (purchase_days m) ≡ 0 =
-            sum_same (held m a) (λ d. 0) (purchase_days m) (λ d. cond-false (has a m.accounts) (lots_of_day d (m.positions a).long) 0 n)
-            ∙ sum_zero (purchase_days m) in
-            omega (arith, taken_held a)
-      ]
+        elim (cases_Bool (has a m.accounts)) [
+          | inl i ↦ omega (arith, taken_held a, held_all m a i)
+          | inr n ↦ omega (arith, taken_held a, sum_no_term (held m a) (purchase_days m) (λ d h. grind arith))
+        ]
 
   paired : SoundSides m → Paired m (chosen share m) (round_rows share m)
   paired sides = round_paired m (chosen share m) sound sides taken_within (chosen_keeps share m keeps sound).complete

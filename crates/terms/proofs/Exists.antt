@@ -5,6 +5,8 @@ use Rattle.std.specs.List.{AllByRecursion}
 use Rattle.std.proofs.ByRecursion.{All-map}
 use Rattle.std.proofs.lemmas.List.Sums.{sum_by-cons, sum-map, sum_by-le-sum_by}
 use Rattle.std.proofs.lemmas.Bool.{cases_lt, cases_Bool, ltb-true, ltb-false, lt-ltb, cond-true, cond-false, cond_both}
+use Rattle.std.proofs.lemmas.Bool.Decides.{nat_tests}
+use Rattle.std.proofs.lemmas.List.{nil_from_length}
 use Rattle.terms.specs.Lots.{Dated, lots_in, lots_of_day}
 use Rattle.terms.specs.Month.{Month, has, held, covered, final, lots_there, holders, purchase_days, effective_sale}
 use Rattle.terms.specs.OddLots.{OddLotRule, KeepsMeaning, Shareable, Shares}
@@ -25,25 +27,11 @@ all_from_has P (x ∷ xs) h = (h x (has_here x xs), all_from_has P xs (λ y i. h
 pub day_le : (d : ℕ) (ls : List Dated) → lots_of_day d ls ≤ lots_in ls
 day_le d [] = omega arith
 day_le d (l ∷ ls) =
-    omega (
-      arith,
-      sum_by-cons (λ (k : Dated). cond (eqb k.day d) k.lots 0) l ls,
-      sum_by-cons (λ (k : Dated). k.lots) l ls,
-      day_le d ls,
-      cond_both (eqb l.day d) l.lots 0 (λ x. x ≤ l.lots) (λ e. omega arith) (λ e. omega arith),
-    )
-
-sum_empty : (f : ℕ → ℕ) (xs : List ℕ) → length xs ≤ 0 → sum_by f xs ≡ 0
-sum_empty f [] h = refl
-sum_empty f (x ∷ xs) h = absurd (omega arith)
+    grind (arith, nat_tests, sum_by-cons (λ (k : Dated). cond (eqb k.day d) k.lots 0) l ls, sum_by-cons (λ (k : Dated). k.lots) l ls, day_le d ls)
 
 -- the classes share out the held lots
 pub classes_held : (m : Month) (a d : ℕ) → lots_there m a d Declared + lots_there m a d Undeclared + lots_there m a d Virtual ≡ held m a d
-classes_held m a d =
-    elim (cases_Bool (final m)) [
-      | inl e ↦ omega (arith, cond-true (final m) 0 (held m a d - covered m a d) e, cond-true (final m) (held m a d - covered m a d) 0 e)
-      | inr e ↦ omega (arith, cond-false (final m) 0 (held m a d - covered m a d) e, cond-false (final m) (held m a d - covered m a d) 0 e)
-    ]
+classes_held m a d = grind arith
 
 size_all : (m : Month) (c : Class) (d : ℕ) → group_size m c d ≡ sum_by (λ a. lots_there m a d c) m.accounts
 size_all m c d = sum_kept (λ a. lots_there m a d c) (λ a. ltb 0 (lots_there m a d c)) m.accounts (λ a e. omega (arith, ltb-false 0 (lots_there m a d c) e))
@@ -93,14 +81,7 @@ module _ (share : OddLotRule) (m : Month) (keeps : KeepsMeaning share) (sound : 
   }
     where
       at_most_limit : (a d : ℕ) (c : Class) → lots_there m a d c ≤ 100000
-      at_most_limit a d c =
-          omega (
-            arith,
-            there_le_held m a d c,
-            sound.limit a,
-            day_le d (m.positions a).long,
-            cond_both (has a m.accounts) (lots_of_day d (m.positions a).long) 0 (λ x. x ≤ lots_of_day d (m.positions a).long) (λ e. omega arith) (λ e. omega arith),
-          )
+      at_most_limit a d c = grind (arith, there_le_held m a d c, sound.limit a, day_le d (m.positions a).long)
 
   shares : (c : Class) (d : ℕ) → 0 < length (holders m c d) → Shares (asked m c d) (amount m c d) (share (asked m c d) (amount m c d))
   shares c d l = keeps (asked m c d) (amount m c d) (shareable c d l)
@@ -127,20 +108,17 @@ module _ (share : OddLotRule) (m : Month) (keeps : KeepsMeaning share) (sound : 
 
   pub taken_amount : (c : Class) (d : ℕ) → taken_there m (chosen share m) c d ≡ amount m c d
   taken_amount c d =
-      elim (cases_lt 0 (length (holders m c d))) [
-        | inl l ↦ sym (sum-map (λ a. chosen share m a d c) (holders m c d)) ∙ ap sum (mapped c d l) ∙ (shares c d l).total
-        | inr z ↦ omega (arith, sum_empty (λ a. chosen share m a d c) (holders m c d) z, sum_empty (λ a. lots_there m a d c) (holders m c d) z)
-      ]
+        elim (cases_lt 0 (length (holders m c d))) [
+          | inl l ↦ sym (sum-map (λ a. chosen share m a d c) (holders m c d)) ∙ ap sum (mapped c d l) ∙ (shares c d l).total
+          | inr z ↦ let none = nil_from_length (holders m c d) (omega arith) in grind (arith, ap (sum_by (λ a. chosen share m a d c)) none, ap (sum_by (λ a. lots_there m a d c)) none)
+        ]
 
   is_holder : (a d : ℕ) (c : Class) → 0 < lots_there m a d c → has a (holders m c d) ≡ true
   is_holder a d c l = has_kept (λ x. ltb 0 (lots_there m x d c)) m.accounts a (there_known m a d c l) (lt-ltb 0 (lots_there m a d c) l)
 
   pub chosen_le : (a d : ℕ) (c : Class) → chosen share m a d c ≤ amount m c d
   chosen_le a d c =
-      elim (cases_lt 0 (lots_there m a d c)) [
-        | inl l ↦ omega (arith, taken_amount c d, has_term (λ x. chosen share m x d c) (holders m c d) a (is_holder a d c l))
-        | inr z ↦ omega (arith, within a d c)
-      ]
+        grind (arith, within a d c, taken_amount c d, is_holder a d c, has_term (λ x. chosen share m x d c) (holders m c d) a)
 
   -- where a class and day is full, all its lots are chosen
   pub full : (a d : ℕ) (c : Class) → (0 < lots_there m a d c → group_size m c d ≤ amount m c d) → lots_there m a d c ≤ chosen share m a d c

@@ -11,7 +11,7 @@ use Rattle.terms.specs.Facts.{Rising, Sound}
 use Rattle.terms.specs.declared.rows.Class.{Class}
 use Rattle.terms.specs.declared.rows.Class.TheVariants.{Undeclared, Virtual}
 use Rattle.terms.proofs.Sums.{has_here, has_there, has_cases, sum_zero, sum_same}
-use Rattle.terms.proofs.Rising.{sum_same_in}
+use Rattle.terms.proofs.Rising.{sum_same_in, sum_no_term}
 use Rattle.terms.proofs.Exists.{within, chosen_le, full}
 
 -- one day's lots count, or do not
@@ -46,7 +46,7 @@ pub before_end : (t : ℕ → ℕ) (days : List ℕ) (from : ℕ) → ((e : ℕ)
 before_end t days from h = sum_same_in (λ e. cond (ltb e from) (t e) 0) t days (λ e i. counts t e from (h e i))
 
 pub before_start : (t : ℕ → ℕ) (days : List ℕ) → before t days 0 ≡ 0
-before_start t days = sum_same_in (λ e. cond (ltb e 0) (t e) 0) (λ (e : ℕ). 0) days (λ e i. skips t e 0 (omega arith)) ∙ sum_zero days
+before_start t days = sum_no_term (λ e. cond (ltb e 0) (t e) 0) days (λ e i. skips t e 0 (omega arith))
 
 -- The days from a day on.
 abbrev pub from_day : ℕ → List ℕ → List ℕ
@@ -97,7 +97,7 @@ pub unused_lots : (m : Month) (a d : ℕ) → (final m ≡ true → lots_there m
 unused_lots m a d = (cond-true (final m) 0 (held m a d - covered m a d), cond-false (final m) (held m a d - covered m a d) 0)
 
 none_in : (f : ℕ → ℕ) (xs : List ℕ) → ((x : ℕ) → f x ≡ 0) → sum_by f xs ≡ 0
-none_in f xs h = sum_same f (λ (x : ℕ). 0) xs h ∙ sum_zero xs
+none_in f xs h = sum_no_term f xs (λ x i. h x)
 
 pub unused_class : (m : Month) (d : ℕ) → (final m ≡ true → group_size m Undeclared d ≡ 0) × (final m ≡ false → group_size m Virtual d ≡ 0)
 unused_class m d = (
