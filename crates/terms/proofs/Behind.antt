@@ -1,6 +1,6 @@
 -- Legs of a sellers' line against a buyers' line: what they sell and buy, and how many they are. Assumes nothing.
 use Rattle.std.proofs.Common.{◌≡◌, ℕ, ◌+◌, ◌-◌, ◌<◌, ◌≤◌, min, Bool, true, false, cond, eqb, ltb, ◌⊎◌, List, [], ◌∷◌, length, sum_by, sym, refl, ap, ap₂, inl, inr, arith, length-append}
-use Rattle.std.proofs.lemmas.List.Sums.{sum_by-cons, sum_by-append}
+use Rattle.std.proofs.lemmas.List.Sums.{sum_by-cons, sum_by-append, sum_by-le-sum_by}
 use Rattle.std.proofs.lemmas.Bool.{cases_lt, eqb-true, eqb-false, lt-ltb, le-ltb, cond-true, cond-false, cond_both}
 use Rattle.std.proofs.lemmas.Bool.Decides.{nat_tests}
 use Rattle.terms.specs.Lines.{Part, part, of_account, lots_on_line}
@@ -83,28 +83,28 @@ behind_lots n (b ∷ bs) =
     )
 
 piece_sold : (p : Piece) (n : ℕ) (bs : List Part) (a : ℕ) → sum_by (sells a) (piece_legs p n bs) ≡ cond (eqb p.seller a) (min n (lots_on_line bs)) 0
-piece_sold p n [] a = sym (cond_nil (eqb p.seller a) (min n 0) (omega arith))
+piece_sold p n [] a = grind (arith, nat_tests)
 piece_sold p n (b ∷ bs) a =
-    omega (
+    grind (
       arith,
+      nat_tests,
       sum_by-append (sells a) (leg_row p b.account (min n b.lots)) (piece_legs p (n - b.lots) bs),
       leg_sold p b.account (min n b.lots) a,
       piece_sold p (n - b.lots) bs a,
-      cond_sum (eqb p.seller a) (min n b.lots) (min (n - b.lots) (lots_on_line bs)) (min n (lots_on_line (b ∷ bs)))
-          (omega (arith, sum_by-cons (λ (q : Part). q.lots) b bs)),
+      sum_by-cons (λ (q : Part). q.lots) b bs,
     )
 
 piece_bought : (p : Piece) (n : ℕ) (bs : List Part) (a : ℕ) → sum_by (buys a) (piece_legs p n bs) + of_account a (behind n bs) ≡ of_account a bs
 piece_bought p n [] a = refl
 piece_bought p n (b ∷ bs) a =
-    omega (
+    grind (
       arith,
+      nat_tests,
       sum_by-append (buys a) (leg_row p b.account (min n b.lots)) (piece_legs p (n - b.lots) bs),
       leg_bought p b.account (min n b.lots) a,
       piece_bought p (n - b.lots) bs a,
       sum_by-cons (λ (q : Part). cond (eqb q.account a) q.lots 0) b bs,
       sum_by-cons (λ (q : Part). cond (eqb q.account a) q.lots 0) (part b.account (b.lots - n)) (behind (n - b.lots) bs),
-      cond_sum (eqb b.account a) (min n b.lots) (b.lots - n) b.lots (omega arith),
     )
 
 -- every leg is of another buyer, and at most the last leaves its buyer lots
@@ -135,15 +135,7 @@ piece_leaves p n (b ∷ bs) =
 
 -- the legs of a line
 no_lots : (bs : List Part) (a : ℕ) → lots_on_line bs ≡ 0 → of_account a bs ≡ 0
-no_lots [] a e = refl
-no_lots (b ∷ bs) a e =
-    grind (
-      arith,
-      nat_tests,
-      sum_by-cons (λ (q : Part). q.lots) b bs,
-      sum_by-cons (λ (q : Part). cond (eqb q.account a) q.lots 0) b bs,
-      no_lots bs a,
-    )
+no_lots bs a e = omega (arith, sum_by-le-sum_by (λ (q : Part). cond (eqb q.account a) q.lots 0) (λ (q : Part). q.lots) bs (λ q. grind arith))
 
 pub legs_sold : (ps : List Piece) (bs : List Part) (a : ℕ) → piece_lots ps ≤ lots_on_line bs → sum_by (sells a) (legs ps bs) ≡ of_seller a ps
 legs_sold [] bs a h = refl

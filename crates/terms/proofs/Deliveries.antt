@@ -5,6 +5,7 @@ use Rattle.std.proofs.lemmas.List.Sums.{sum_by-cons, fold-append}
 use Rattle.std.proofs.ByRecursion.{All-append}
 use Rattle.std.proofs.lemmas.Bool.{cases_lt, cases_Bool, eq-eqb, ne_eqb, false≢true, cond-true, cond-false, cond_both}
 use Rattle.std.proofs.lemmas.Bool.Decides.{nat_tests}
+use Rattle.std.proofs.lemmas.List.Folds.{fold-map}
 use Rattle.terms.specs.Lots.{lots_in}
 use Rattle.terms.specs.Month.{Month, has, final, effective_sale, declared_sale, declared_bonds, purchase_days, Declaration, nothing, to_buy, to_sell}
 use Rattle.terms.specs.Selection.{Selection, taken_from}
@@ -18,7 +19,7 @@ use Rattle.terms.specs.declared.rows.Class.{Class}
 use Rattle.terms.specs.declared.rows.Class.TheVariants.{Declared}
 use Rattle.terms.specs.declared.rows.Row.{Row}
 use Rattle.terms.specs.declared.rows.Row.TheVariants.{ClassLots, Leg, Refused}
-use Rattle.terms.proofs.Sums.{has_here, has_there, has_cases}
+use Rattle.terms.proofs.Sums.{has_here, has_there, has_cases, sum_empty, sum_add, sum_same}
 use Rattle.terms.proofs.Lines.{count_sides}
 use Rattle.terms.proofs.Legs.{with_leg_sold, with_leg_bought}
 use Rattle.terms.proofs.Behind.{sells, buys, piece_lots, some, full_pieces, full_parts, cond_nil, legs_sold, legs_bought, legs_none, legs_few}
@@ -180,8 +181,7 @@ failure_kind f (x ∷ xs) = (refl, failure_kind f xs)
 
 -- the sum over a line made from accounts
 pub map_sum : {A : Type 0} (w : A → ℕ) (q : ℕ → A) (xs : List ℕ) → sum_by w (map q xs) ≡ sum_by (λ x. w (q x)) xs
-map_sum w q [] = refl
-map_sum w q (x ∷ xs) = omega (arith, sum_by-cons w (q x) (map q xs), sum_by-cons (λ y. w (q y)) x xs, map_sum w q xs)
+map_sum w q xs = fold-map (λ a x. a + w x) q 0 xs
 
 -- pairs that sell and buy what the legs do, and are no more than the legs, are a pairing
 legs_pairing : (f g : ℕ → ℕ) (xs : List ℕ) → Rising xs → ((a : ℕ) → has a xs ≡ false → (f a ≡ 0) × (g a ≡ 0)) → ((a : ℕ) → (f a ≡ 0) ⊎ (g a ≡ 0)) →
@@ -201,14 +201,10 @@ legs_pairing f g xs r off sides e ps sold bought short = record {
       map_sum (λ (p : Part). some p.lots) (λ x. part x (g x)) xs,
       count_sides f g xs sides,
     )
-    | inr z ↦ absurd (omega (arith, no_pairs ps (omega (arith, legs_none qs bs (omega arith)))))
+    | inr z ↦ absurd (omega (arith, sum_empty (λ (p : Pair). p.lots) ps (omega (arith, legs_none qs bs (omega arith)))))
   ];
 }
   where
-    no_pairs : (zs : List Pair) → length zs ≤ 0 → sum_by (λ (p : Pair). p.lots) zs ≡ 0
-    no_pairs [] h = refl
-    no_pairs (p ∷ zs) h = absurd (omega arith)
-
     qs : List Piece
     qs = map (λ x. piece x None (f x)) xs
 
@@ -249,11 +245,10 @@ failure_pairing f g xs r off sides e =
 -- what is left of two equal sums once equal sums are taken
 left_over : (t : Bool) (f g h k : ℕ → ℕ) (xs : List ℕ) → ((a : ℕ) → g a ≤ f a) → ((a : ℕ) → k a ≤ h a) → sum_by f xs ≡ sum_by h xs → sum_by g xs ≡ sum_by k xs →
     sum_by (λ a. cond t (f a - g a) 0) xs ≡ sum_by (λ a. cond t (h a - k a) 0) xs
-left_over true f g h k xs p q e d = omega (arith, less f g p xs, less h k q xs)
+left_over true f g h k xs p q e d = omega (arith, less f g p, less h k q)
   where
-    less : (f g : ℕ → ℕ) → ((a : ℕ) → g a ≤ f a) → (xs : List ℕ) → sum_by (λ a. f a - g a) xs + sum_by g xs ≡ sum_by f xs
-    less f g p [] = refl
-    less f g p (x ∷ xs) = omega (arith, p x, sum_by-cons f x xs, sum_by-cons g x xs, sum_by-cons (λ a. f a - g a) x xs, less f g p xs)
+    less : (f g : ℕ → ℕ) → ((a : ℕ) → g a ≤ f a) → sum_by (λ a. f a - g a) xs + sum_by g xs ≡ sum_by f xs
+    less f g p = sym (sum_add (λ a. f a - g a) g xs) ∙ sum_same (λ a. f a - g a + g a) f xs (λ a. omega (arith, p a))
 left_over false f g h k xs p q e d = refl
 
 -- the bonds of a declaration hold its lots

@@ -15,7 +15,7 @@ use Rattle.terms.specs.Rounds.{asked, group_size, class_size, to_deliver, wanted
 use Rattle.terms.specs.Facts.{Sound, SelectionExists}
 use Rattle.terms.specs.declared.rows.Class.{Class}
 use Rattle.terms.specs.declared.rows.Class.TheVariants.{Declared, Undeclared, Virtual}
-use Rattle.terms.proofs.Sums.{has_here, has_there, has_length, sum_add, sum_same, sum_swap, sum_kept, has_kept}
+use Rattle.terms.proofs.Sums.{has_here, has_there, has_length, sum_add, sum_same, sum_swap, sum_kept, has_kept, sum_empty}
 use Rattle.terms.proofs.Rising.{sum_same_in, has_term, kept_has, kept_rising, kept_length, days_rising, days_within, lots_by_day}
 use Rattle.terms.proofs.Alone.{there_le_held, there_known, there_day}
 use Rattle.terms.proofs.Fill.{fill_full, fill_all, fill_sum, part_le, part_ge, parts_map, ceil_le, sum_positive}
@@ -25,9 +25,8 @@ all_from_has P [] h = tt
 all_from_has P (x ∷ xs) h = (h x (has_here x xs), all_from_has P xs (λ y i. h y (has_there y x xs i)))
 
 pub day_le : (d : ℕ) (ls : List Dated) → lots_of_day d ls ≤ lots_in ls
-day_le d [] = omega arith
-day_le d (l ∷ ls) =
-    grind (arith, nat_tests, sum_by-cons (λ (k : Dated). cond (eqb k.day d) k.lots 0) l ls, sum_by-cons (λ (k : Dated). k.lots) l ls, day_le d ls)
+day_le d ls =
+    sum_by-le-sum_by (λ (k : Dated). cond (eqb k.day d) k.lots 0) (λ (k : Dated). k.lots) ls (λ k. grind arith)
 
 -- the classes share out the held lots
 pub classes_held : (m : Month) (a d : ℕ) → lots_there m a d Declared + lots_there m a d Undeclared + lots_there m a d Virtual ≡ held m a d
@@ -110,7 +109,7 @@ module _ (share : OddLotRule) (m : Month) (keeps : KeepsMeaning share) (sound : 
   taken_amount c d =
         elim (cases_lt 0 (length (holders m c d))) [
           | inl l ↦ sym (sum-map (λ a. chosen share m a d c) (holders m c d)) ∙ ap sum (mapped c d l) ∙ (shares c d l).total
-          | inr z ↦ let none = nil_from_length (holders m c d) (omega arith) in grind (arith, ap (sum_by (λ a. chosen share m a d c)) none, ap (sum_by (λ a. lots_there m a d c)) none)
+          | inr z ↦ omega (arith, sum_empty (λ a. chosen share m a d c) (holders m c d) z, sum_empty (λ a. lots_there m a d c) (holders m c d) z)
         ]
 
   is_holder : (a d : ℕ) (c : Class) → 0 < lots_there m a d c → has a (holders m c d) ≡ true

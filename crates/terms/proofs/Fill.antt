@@ -22,9 +22,6 @@ before_none t d (x ∷ xs) h =
       before_none t d xs (λ y i. h y (has_there y x xs i)),
     )
 
-later_le : (t : ℕ → ℕ) (e d' d : ℕ) → d' < d → cond (ltb e d') (t e) 0 ≤ cond (ltb e d) (t e) 0
-later_le t e d' d l = grind (arith, nat_tests)
-
 pub before_step : (t : ℕ → ℕ) (days : List ℕ) (d' d : ℕ) → d' < d → has d' days ≡ true → before t days d' + t d' ≤ before t days d
 before_step t [] d' d l i = absurd (false≢true i)
 before_step t (e ∷ es) d' d l i =
@@ -33,12 +30,9 @@ before_step t (e ∷ es) d' d l i =
       nat_tests,
       sum_by-cons (λ x. cond (ltb x d') (t x) 0) e es,
       sum_by-cons (λ x. cond (ltb x d) (t x) 0) e es,
-      sum_by-le-sum_by (λ x. cond (ltb x d') (t x) 0) (λ x. cond (ltb x d) (t x) 0) es (λ x. later_le t x d' d l),
+      sum_by-le-sum_by (λ x. cond (ltb x d') (t x) 0) (λ x. cond (ltb x d) (t x) 0) es (λ x. grind (arith, nat_tests)),
       before_step t es d' d l,
     )
-
-some_le : (t : ℕ → ℕ) (e d : ℕ) → cond (ltb e d) (t e) 0 ≤ t e
-some_le t e d = grind (arith, nat_tests)
 
 pub before_all : (t : ℕ → ℕ) (days : List ℕ) (d : ℕ) → has d days ≡ true → before t days d + t d ≤ sum_by t days
 before_all t [] d i = absurd (false≢true i)
@@ -48,7 +42,7 @@ before_all t (e ∷ es) d i =
       nat_tests,
       sum_by-cons (λ x. cond (ltb x d) (t x) 0) e es,
       sum_by-cons t e es,
-      sum_by-le-sum_by (λ x. cond (ltb x d) (t x) 0) t es (λ x. some_le t x d),
+      sum_by-le-sum_by (λ x. cond (ltb x d) (t x) 0) t es (λ x. grind arith),
       before_all t es d,
     )
 

@@ -41,14 +41,17 @@ pieces_full : (f h : ℕ → ℕ) (bonds : ℕ → List BondLots) → ((a : ℕ)
     full_pieces (flat_map (λ a. bond_pieces a (f a) (bonds a)) xs) ≤ 4 * count_by (λ a. ltb 0 (h a)) xs
 pieces_full f h bonds within four [] = omega arith
 pieces_full f h bonds within four (x ∷ xs) =
-    let cut = sum_by-append (λ (p : Piece). some p.lots) (bond_pieces x (f x) (bonds x)) (flat_map (λ a. bond_pieces a (f a) (bonds a)) xs) in
-    let count = sum_by-cons (λ a. some (h a)) x xs in
-    let rest = pieces_full f h bonds within four xs in
-    let more = some_more (f x) (h x) (within x) in
-    elim (some_cases (f x)) [
-      | inl k ↦ omega (arith, bonds_none x (f x) (bonds x) k.0)
-      | inr k ↦ omega (arith, k.1, bonds_each x (f x) (bonds x), four x)
-    ]
+    grind (
+      arith,
+      nat_tests,
+      sum_by-append (λ (p : Piece). some p.lots) (bond_pieces x (f x) (bonds x)) (flat_map (λ a. bond_pieces a (f a) (bonds a)) xs),
+      sum_by-cons (λ a. some (h a)) x xs,
+      pieces_full f h bonds within four xs,
+      within x,
+      four x,
+      bonds_none x (f x) (bonds x),
+      bonds_each x (f x) (bonds x),
+    )
 
 -- legs between at most s pieces and b buyers with lots
 legs_within : (ps : List Piece) (bs : List Part) (s b : ℕ) → full_pieces ps ≤ s → full_parts bs ≤ b → 0 < b → length (legs ps bs) < s + b

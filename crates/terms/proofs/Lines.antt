@@ -8,7 +8,7 @@ use Rattle.terms.specs.Month.{has}
 use Rattle.terms.specs.Facts.{Rising}
 use Rattle.terms.specs.Lines.{Part, part, of_account, lots_on_line, line, past, overlaps, laid}
 use Rattle.terms.specs.Pairs.{Pair, pair, sold_in, bought_in, Pairing}
-use Rattle.terms.proofs.Sums.{has_here, has_there, has_cases}
+use Rattle.terms.proofs.Sums.{has_here, has_there, has_cases, sum_empty}
 use Rattle.terms.proofs.Rising.{sum_at}
 
 abbrev Positive : List Part → Type 0
@@ -129,14 +129,10 @@ laid_pairing f g accounts r off sides e = record {
   bought = λ a. overlaps_bought k ss bs (line_positive f accounts) (line_positive g accounts) even (omega arith) a ∙ own g a (λ h. (off a h).1);
   few = λ l. elim (cases_lt 0 (length (line f accounts) + length (line g accounts))) [
     | inl p ↦ omega (arith, overlaps_few k ss bs p, line_length f accounts, line_length g accounts, count_sides f g accounts sides)
-    | inr z ↦ absurd (omega (arith, no_lots (laid f g accounts) (omega (arith, overlaps_none k ss bs z))))
+    | inr z ↦ absurd (omega (arith, sum_empty (λ (p : Pair). p.lots) (laid f g accounts) (omega (arith, overlaps_none k ss bs z))))
   ];
 }
   where
-    no_lots : (ps : List Pair) → length ps ≤ 0 → sum_by (λ (p : Pair). p.lots) ps ≡ 0
-    no_lots [] h = refl
-    no_lots (p ∷ ps) h = absurd (omega arith)
-
     ss : List Part
     ss = line f accounts
 

@@ -1,9 +1,11 @@
 -- Sums over lists of numbers, and the numbers that a list has. Assumes nothing.
 use Rattle.std.proofs.Common.{◌≡◌, ℕ, ◌+◌, ◌<◌, ◌≤◌, Bool, true, false, ◌⊎◌, List, [], ◌∷◌, map, length, sum_by, filter, sym, refl, ap, ◌∙◌, inl, inr, arith}
 use mathlib.Core.Path.{fun_ext}
-use Rattle.std.proofs.lemmas.List.Sums.{sum_by-cons, sum_by-le-sum_by}
+use Rattle.std.proofs.lemmas.List.Sums.{sum_by-cons, sum_by-le-sum_by, sum_by-append}
 use Rattle.std.proofs.lemmas.Bool.{cases_lt, false≢true}
 use Rattle.std.proofs.lemmas.Bool.Decides.{nat_tests}
+use Rattle.std.proofs.lemmas.List.{nil_from_length}
+use Rattle.std.specs.List.{flat_map}
 use Rattle.terms.specs.Month.{has}
 
 pub has_here : (x : ℕ) (xs : List ℕ) → has x (x ∷ xs) ≡ true
@@ -40,6 +42,9 @@ pub sum_zero : (xs : List ℕ) → sum_by (λ (x : ℕ). 0) xs ≡ 0
 sum_zero [] = refl
 sum_zero (x ∷ xs) = sum_zero xs
 
+pub sum_empty : {A : Type 0} (w : A → ℕ) (xs : List A) → length xs ≤ 0 → sum_by w xs ≡ 0
+sum_empty w xs h = ap (sum_by w) (nil_from_length xs (omega arith))
+
 pub sum_same : (f g : ℕ → ℕ) (xs : List ℕ) → ((x : ℕ) → f x ≡ g x) → sum_by f xs ≡ sum_by g xs
 sum_same f g xs h = ap (λ (k : ℕ → ℕ). sum_by k xs) (fun_ext h)
 
@@ -47,6 +52,11 @@ pub sum_swap : (f : ℕ → ℕ → ℕ) (xs ys : List ℕ) → sum_by (λ x. su
 sum_swap f [] ys = sym (sum_zero ys)
 sum_swap f (x ∷ xs) ys =
     simp sum_by-cons (ap (λ n. sum_by (f x) ys + n) (sum_swap f xs ys) ∙ sym (sum_add (f x) (λ y. sum_by (λ z. f z y) xs) ys))
+
+-- the sum over lists that stand one behind the other
+pub sum_listed : {A : Type 0} (w : A → ℕ) (f : ℕ → List A) (xs : List ℕ) → sum_by w (flat_map f xs) ≡ sum_by (λ x. sum_by w (f x)) xs
+sum_listed w f [] = refl
+sum_listed w f (x ∷ xs) = omega (arith, sum_by-append w (f x) (flat_map f xs), sum_by-cons (λ y. sum_by w (f y)) x xs, sum_listed w f xs)
 
 -- what a filter leaves out adds nothing
 pub sum_kept : (f : ℕ → ℕ) (p : ℕ → Bool) (xs : List ℕ) → ((x : ℕ) → p x ≡ false → f x ≡ 0) → sum_by f (filter p xs) ≡ sum_by f xs

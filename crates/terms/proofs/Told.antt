@@ -16,7 +16,7 @@ use Rattle.terms.specs.declared.rows.Class.{Class}
 use Rattle.terms.specs.declared.rows.Class.TheVariants.{Declared, Undeclared, Virtual}
 use Rattle.terms.specs.declared.rows.Row.{Row}
 use Rattle.terms.specs.declared.rows.Row.TheVariants.{ClassLots, Leg}
-use Rattle.terms.proofs.Sums.{has_cases, sum_zero}
+use Rattle.terms.proofs.Sums.{has_cases, sum_zero, sum_listed}
 use Rattle.terms.proofs.Rising.{sum_same_in, days_rising, sum_no_term, sum_one_term}
 use Rattle.terms.proofs.Alone.{there_known, there_day}
 use Rattle.terms.proofs.Exists.{within, chosen_keeps}
@@ -26,11 +26,7 @@ told_append : (xs ys : List Row) (a d : ℕ) (c : Class) → told (xs ++ ys) a d
 told_append xs ys a d c = sum_by-append (λ (r : Row). told_by r a d c) xs ys
 
 told_listed : (f : ℕ → List Row) (xs : List ℕ) (a d : ℕ) (c : Class) → told (flat_map f xs) a d c ≡ sum_by (λ x. told (f x) a d c) xs
-told_listed f [] a d c = refl
-told_listed f (x ∷ xs) a d c =
-    told_append (f x) (flat_map f xs) a d c
-    ∙ ap (λ n. told (f x) a d c + n) (told_listed f xs a d c)
-    ∙ sym (sum_by-cons (λ y. told (f y) a d c) x xs)
+told_listed f xs a d c = sum_listed (λ (r : Row). told_by r a d c) f xs
 
 -- the row of some lots
 abbrev here : ℕ → ℕ → Class → ℕ → ℕ → Class → Bool
