@@ -2,7 +2,7 @@
 use Rattle.std.proofs.Common.{◌≡◌, ℕ, ◌+◌, ◌-◌, ◌<◌, ◌≤◌, true, false, cond, eqb, ltb, ◌⊎◌, List, [], ◌∷◌, map, sum_by, sym, refl, ap, ◌∙◌, subst, inl, inr, arith}
 use mathlib.Core.Path.{fun_ext}
 use Rattle.std.proofs.lemmas.List.Sums.{sum_by-cons, sum_by-le-sum_by}
-use Rattle.std.proofs.lemmas.Bool.{cases_lt, cases_Bool, cases_order, cases_eq, eqb-true, eq-eqb, ltb-false, lt-ltb, false≢true, cond-true, cond-false, cond_both, or_left}
+use Rattle.std.proofs.lemmas.Bool.{cases_lt, cases_Bool, cases_order, cases_eq, eqb-true, eq-eqb, ltb-false, lt-ltb, false≢true, cond-true, cond-false, cond_both, or_left, eqb-false}
 use Rattle.std.proofs.lemmas.Bool.Decides.{nat_tests}
 use Rattle.terms.specs.Lots.{Dated, Position, lots_of_day}
 use Rattle.terms.specs.Month.{Month, has, held, covered, final, lots_there, holders, purchase_days, with_day, with_days, days_among}
@@ -70,16 +70,23 @@ day_by_class m s d =
     sum_add (λ a. s a d Declared + s a d Undeclared) (λ a. s a d Virtual) m.accounts
     ∙ ap (λ n. n + sum_by (λ a. s a d Virtual) m.accounts) (sum_add (λ a. s a d Declared) (λ a. s a d Undeclared) m.accounts)
 
-class_cases : (c c' : Class) → (c ≡ c') ⊎ (c ≡ c' → ⊥)
-class_cases Declared Declared = inl refl
-class_cases Declared Undeclared = inr (λ e. cc)
-class_cases Declared Virtual = inr (λ e. cc)
-class_cases Undeclared Declared = inr (λ e. cc)
-class_cases Undeclared Undeclared = inl refl
-class_cases Undeclared Virtual = inr (λ e. cc)
-class_cases Virtual Declared = inr (λ e. cc)
-class_cases Virtual Undeclared = inr (λ e. cc)
-class_cases Virtual Virtual = inl refl
+pub letter_same : (c' c : Class) → eqb (letter c') (letter c) ≡ true → c' ≡ c
+letter_same Declared Declared h = refl
+letter_same Declared Undeclared h = absurd (false≢true h)
+letter_same Declared Virtual h = absurd (false≢true h)
+letter_same Undeclared Declared h = absurd (false≢true h)
+letter_same Undeclared Undeclared h = refl
+letter_same Undeclared Virtual h = absurd (false≢true h)
+letter_same Virtual Declared h = absurd (false≢true h)
+letter_same Virtual Undeclared h = absurd (false≢true h)
+letter_same Virtual Virtual h = refl
+
+pub class_cases : (c c' : Class) → (c ≡ c') ⊎ (c ≡ c' → ⊥)
+class_cases c c' =
+    elim (cases_Bool (eqb (letter c) (letter c'))) [
+      | inl e ↦ inl (letter_same c c' e)
+      | inr e ↦ inr (λ q. eqb-false (letter c) (letter c') e (ap letter q))
+    ]
 
 module _ (share : OddLotRule) (m : Month) (s t : Selection) (ks : FiveRules share m s) (kt : FiveRules share m t) where
   -- the number taken there is taken from all accounts
@@ -137,32 +144,23 @@ module _ (share : OddLotRule) (m : Month) (s t : Selection) (ks : FiveRules shar
 
   not_less : (c : Class) (d : ℕ) → group m s c d < group m t c d → ⊥
   not_less c d g =
-      let r = group_gap c d g in
-      let today = this_day c r.0 d r.2 g in
-      let lots : 0 < lots_there m r.0 d c = omega (arith, kt.within r.0 d c, r.2) in
-      let days : (y : ℕ) → day_total m s y ≤ day_total m t y =
-      λ y. elim (cases_eq d y) [
-        | inl e ↦ subst (λ x. day_total m s x ≤ day_total m t x) e (omega (arith, today))
-        | inr ne ↦ other_day c r.0 d y r.2 ne
-      ] in
-      omega (
-        arith,
-        sum_lt (day_total m s) (day_total m t) (purchase_days m) d (there_day m r.0 d c lots) days today,
-        total_by_day m s,
-        total_by_day m t,
-        ks.complete,
-        kt.complete,
-      )
+        let r = group_gap c d g in
+        let today = this_day c r.0 d r.2 g in
+        let days : (y : ℕ) → day_total m s y ≤ day_total m t y = λ y. grind (arith, nat_tests, today, cases_eq d y, other_day c r.0 d y r.2) in
+        omega (
+          arith,
+          sum_lt (day_total m s) (day_total m t) (purchase_days m) d (there_day m r.0 d c (omega (arith, kt.within r.0 d c, r.2))) days today,
+          total_by_day m s,
+          total_by_day m t,
+          ks.complete,
+          kt.complete,
+        )
 
 module _ (share : OddLotRule) (m : Month) (s t : Selection) (ks : FiveRules share m s) (kt : FiveRules share m t) where
   same_there : (c : Class) (d : ℕ) → taken_there m s c d ≡ taken_there m t c d
   same_there c d =
-      there_group share m s t ks kt c d
-      ∙ (elim (cases_order (group m s c d) (group m t c d)) [
-        | inl e ↦ e
-        | inr o ↦ elim o [ inl l ↦ absurd (not_less share m s t ks kt c d l) | inr l ↦ absurd (not_less share m t s kt ks c d l) ]
-      ])
-      ∙ sym (there_group share m t s kt ks c d)
+        let one : group m s c d ≡ group m t c d = grind (arith, not_less share m s t ks kt c d, not_less share m t s kt ks c d) in
+        there_group share m s t ks kt c d ∙ one ∙ sym (there_group share m t s kt ks c d)
 
   same_at : (a d : ℕ) (c : Class) → s a d c ≡ t a d c
   same_at a d c =

@@ -47,15 +47,6 @@ some_more x y h = grind (arith, nat_tests)
 some_split : (n l : ℕ) → some (min n l) + some (l - n) + some (n - l) ≤ some l + some n
 some_split n l = grind (arith, nat_tests)
 
-pub cond_nil : (t : Bool) (n : ℕ) → n ≡ 0 → cond t n 0 ≡ 0
-cond_nil t n e = grind arith
-
-pub cond_at_most : (t : Bool) (n k : ℕ) → n ≤ k → cond t n 0 ≤ k
-cond_at_most t n k h = grind arith
-
-pub cond_sum : (t : Bool) (x y z : ℕ) → x + y ≡ z → cond t x 0 + cond t y 0 ≡ cond t z 0
-cond_sum t x y z e = grind arith
-
 -- one leg
 leg_sold : (p : Piece) (b n a : ℕ) → sum_by (sells a) (leg_row p b n) ≡ cond (eqb p.seller a) n 0
 leg_sold p b n a = grind (arith, nat_tests, sum_by-cons (sells a) (Leg p.seller b n p.bond) [])
@@ -134,7 +125,7 @@ piece_leaves p n (b ∷ bs) =
     )
 
 -- the legs of a line
-no_lots : (bs : List Part) (a : ℕ) → lots_on_line bs ≡ 0 → of_account a bs ≡ 0
+pub no_lots : (bs : List Part) (a : ℕ) → lots_on_line bs ≡ 0 → of_account a bs ≡ 0
 no_lots bs a e = omega (arith, sum_by-le-sum_by (λ (q : Part). cond (eqb q.account a) q.lots 0) (λ (q : Part). q.lots) bs (λ q. grind arith))
 
 pub legs_sold : (ps : List Piece) (bs : List Part) (a : ℕ) → piece_lots ps ≤ lots_on_line bs → sum_by (sells a) (legs ps bs) ≡ of_seller a ps
@@ -187,15 +178,14 @@ legs_none (p ∷ ps) bs h =
 pub legs_few : (ps : List Piece) (bs : List Part) → 0 < full_pieces ps + full_parts bs → length (legs ps bs) < full_pieces ps + full_parts bs
 legs_few [] bs h = h
 legs_few (p ∷ ps) bs h =
-    let len = length-append (piece_legs p p.lots bs) (legs ps (behind p.lots bs)) in
-    let cut = sum_by-cons (λ (q : Piece). some q.lots) p ps in
-    let here = piece_leaves p p.lots bs in
-    elim (cases_lt 0 (full_pieces ps + full_parts (behind p.lots bs))) [
-      | inl l ↦ omega (arith, legs_few ps (behind p.lots bs) l)
-      | inr z ↦
-          let none = legs_none ps (behind p.lots bs) (omega arith) in
-          elim (some_cases p.lots) [
-            | inl k ↦ absurd (omega (arith, k.1, ap full_parts (behind_zero p.lots bs k.0)))
-            | inr k ↦ omega (arith, k.1, piece_within p p.lots bs)
-          ]
-    ]
+    grind (
+      arith,
+      nat_tests,
+      length-append (piece_legs p p.lots bs) (legs ps (behind p.lots bs)),
+      sum_by-cons (λ (q : Piece). some q.lots) p ps,
+      piece_leaves p p.lots bs,
+      piece_within p p.lots bs,
+      legs_none ps (behind p.lots bs),
+      behind_zero p.lots bs,
+      legs_few ps (behind p.lots bs),
+    )

@@ -136,17 +136,16 @@ module _ (share : OddLotRule) (m : Month) (sel : Selection) where
     shared_at : classes shared_ok ≡ true → (c : Class) (d : ℕ) → 0 < length (holders m c d) →
         map (λ a. sel a d c) (holders m c d) ≡ share (map (λ a. lots_there m a d c) (holders m c d)) (taken_there m sel c d)
     shared_at h c d l =
-        let r = kept_some (λ a. ltb 0 (lots_there m a d c)) m.accounts l in
-        let there = ltb-true 0 (lots_there m r.0 d c) r.1 in
-        let given = map (λ a. sel a d c) (holders m c d) in
-        let asked = share (map (λ a. lots_there m a d c) (holders m c d)) (taken_there m sel c d) in
-        elim (or_cases (not (ltb 0 (length (holders m c d)))) (same_list given asked)
-        (all_has (λ y. not (ltb 0 (length (holders m c y))) ||
-        same_list (map (λ a. sel a y c) (holders m c y)) (share (map (λ a. lots_there m a y c) (holders m c y)) (taken_there m sel c y)))
-        (purchase_days m) d (classes_at shared_ok h c) (there_day m r.0 d c there))) [
-          | inl n ↦ absurd (both_ways (ltb 0 (length (holders m c d))) (not-true (ltb 0 (length (holders m c d))) n) (lt-ltb 0 (length (holders m c d)) l))
-          | inr t ↦ same_list_eq given asked t
-        ]
+            let r = kept_some (λ a. ltb 0 (lots_there m a d c)) m.accounts l in
+            let day = there_day m r.0 d c (ltb-true 0 (lots_there m r.0 d c) r.1) in
+            grind (
+              arith,
+              nat_tests,
+              same_list_eq (map (λ a. sel a d c) (holders m c d)) (share (map (λ a. lots_there m a d c) (holders m c d)) (taken_there m sel c d)),
+              all_has (λ y. not (ltb 0 (length (holders m c y))) ||
+                  same_list (map (λ a. sel a y c) (holders m c y)) (share (map (λ a. lots_there m a y c) (holders m c y)) (taken_there m sel c y)))
+                  (purchase_days m) d (classes_at shared_ok h c) day,
+            )
 
 -- the five rules from the tests
 pub five_rules : (share : OddLotRule) (m : Month) (rows : List Row) →

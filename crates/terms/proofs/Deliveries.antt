@@ -22,7 +22,7 @@ use Rattle.terms.specs.declared.rows.Row.TheVariants.{ClassLots, Leg, Refused}
 use Rattle.terms.proofs.Sums.{has_here, has_there, has_cases, sum_empty, sum_add, sum_same}
 use Rattle.terms.proofs.Lines.{count_sides}
 use Rattle.terms.proofs.Legs.{with_leg_sold, with_leg_bought}
-use Rattle.terms.proofs.Behind.{sells, buys, piece_lots, some, full_pieces, full_parts, cond_nil, legs_sold, legs_bought, legs_none, legs_few}
+use Rattle.terms.proofs.Behind.{sells, buys, piece_lots, some, full_pieces, full_parts, legs_sold, legs_bought, legs_none, legs_few}
 use Rattle.terms.proofs.Joined.{with_lots, met, meets, lines_join}
 use Rattle.terms.proofs.Rising.{sum_at}
 
@@ -270,12 +270,12 @@ round_paired m sel sound sides within complete = record {
   failures = subst (Pairing m.accounts (unsold m) (unbought m sel)) (sym second)
       (failure_pairing (unsold m) (unbought m sel) m.accounts sound.rising
       (λ a n. let k = sides.known a n in (
-        cond_nil (final m) ((m.positions a).short - effective_sale m a) (omega (arith, k.0)),
-        cond_nil (final m) (lots_in (m.positions a).long - taken_from m sel a) (omega (arith, k.1)),
+        grind (arith, k.0),
+        grind (arith, k.1),
       ))
       (λ a. elim (sides.one_sided a) [
-        | inl e ↦ inl (cond_nil (final m) ((m.positions a).short - effective_sale m a) (omega (arith, e)))
-        | inr e ↦ inr (cond_nil (final m) (lots_in (m.positions a).long - taken_from m sel a) (omega (arith, e)))
+        | inl e ↦ inl (grind arith)
+        | inr e ↦ inr (grind arith)
       ])
       (left_over (final m) (λ a. (m.positions a).short) (effective_sale m) (λ a. lots_in (m.positions a).long) (taken_from m sel) m.accounts
       (λ a. omega arith) within sound.balanced (sym complete)));

@@ -13,7 +13,7 @@ use Rattle.terms.specs.Rounds.{Piece, piece, bond_pieces, delivery_pieces, failu
 use Rattle.terms.specs.Facts.{Sound, SoundSides}
 use Rattle.terms.specs.declared.calls.BondLots.{BondLots}
 use Rattle.terms.proofs.Lines.{count_sides}
-use Rattle.terms.proofs.Behind.{some, some_cases, some_more, full_pieces, full_parts, cond_at_most, legs_none, legs_few}
+use Rattle.terms.proofs.Behind.{some, some_cases, some_more, full_pieces, full_parts, legs_none, legs_few}
 use Rattle.terms.proofs.Deliveries.{map_sum}
 
 -- a seller without lots has no piece with lots, and else at most one for each bond
@@ -95,7 +95,7 @@ few_legs_of m sel sound apart within =
     bought_full = parts_full (taken_from m sel) within
 
     unbought_full : full_parts (buyers (unbought m sel) m.accounts) ≤ count_by (λ a. ltb 0 (lots_in (m.positions a).long)) m.accounts
-    unbought_full = parts_full (unbought m sel) (λ a. cond_at_most (final m) (lots_in (m.positions a).long - taken_from m sel a) (lots_in (m.positions a).long) (omega arith))
+    unbought_full = parts_full (unbought m sel) (λ a. grind arith)
 
     unsold_full : full_pieces (failure_pieces m) ≤ count_by (λ a. ltb 0 (m.positions a).short) m.accounts
     unsold_full =
@@ -103,5 +103,5 @@ few_legs_of m sel sound apart within =
           arith,
           map_sum (λ (p : Piece). some p.lots) (λ x. piece x None (unsold m x)) m.accounts,
           sum_by-le-sum_by (λ a. some (unsold m a)) (λ a. some (m.positions a).short) m.accounts
-              (λ a. some_more (unsold m a) (m.positions a).short (cond_at_most (final m) ((m.positions a).short - effective_sale m a) (m.positions a).short (omega arith))),
+              (λ a. some_more (unsold m a) (m.positions a).short (grind arith)),
         )

@@ -10,6 +10,7 @@ use Rattle.terms.specs.Lines.{Part, part, of_account, lots_on_line, line, past, 
 use Rattle.terms.specs.Pairs.{Pair, pair, sold_in, bought_in, Pairing}
 use Rattle.terms.proofs.Sums.{has_here, has_there, has_cases, sum_empty}
 use Rattle.terms.proofs.Rising.{sum_at}
+use Rattle.terms.proofs.Behind.{no_lots}
 
 abbrev Positive : List Part → Type 0
 Positive ps = AllByRecursion (λ (p : Part). 0 < p.lots) ps
@@ -34,10 +35,6 @@ past_length : (s b : Part) (ss bs : List Part) → length (past s b.lots ss) + l
 past_length s b ss bs = grind (arith, nat_tests)
 
 -- where both lines have as many lots, every lot is paired
-line_nil : (ps : List Part) → Positive ps → lots_on_line ps ≡ 0 → (a : ℕ) → of_account a ps ≡ 0
-line_nil [] h e a = refl
-line_nil (p ∷ ps) h e a = absurd (omega (arith, sum_by-cons (λ (q : Part). q.lots) p ps, h.0))
-
 overlaps_sold : (k : ℕ) (ss bs : List Part) → Positive ss → Positive bs → lots_on_line ss ≡ lots_on_line bs → length ss + length bs ≤ k →
     (a : ℕ) → sold_in (overlaps k ss bs) a ≡ of_account a ss
 overlaps_sold zero [] bs p q e l a = refl
@@ -55,7 +52,7 @@ overlaps_bought : (k : ℕ) (ss bs : List Part) → Positive ss → Positive bs 
     (a : ℕ) → bought_in (overlaps k ss bs) a ≡ of_account a bs
 overlaps_bought zero ss [] p q e l a = refl
 overlaps_bought zero ss (b ∷ bs) p q e l a = absurd (omega arith)
-overlaps_bought (suc k) [] bs p q e l a = sym (line_nil bs q (sym e) a)
+overlaps_bought (suc k) [] bs p q e l a = sym (no_lots bs a (sym e))
 overlaps_bought (suc k) (s ∷ ss) [] p q e l a = refl
 overlaps_bought (suc k) (s ∷ ss) (b ∷ bs) p q e l a =
     sum_by-cons (λ (x : Pair). cond (eqb x.buyer a) x.lots 0) (pair s.account b.account (min s.lots b.lots)) (overlaps k (past s b.lots ss) (past b s.lots bs))

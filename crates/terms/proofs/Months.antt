@@ -1,5 +1,5 @@
 -- One plain month is left by a list of calls. Assumes nothing.
-use Rattle.std.proofs.Common.{◌≡◌, ℕ, Bool, List, refl, ap, ◌∙◌, subst, inl, inr}
+use Rattle.std.proofs.Common.{◌≡◌, ℕ, Bool, List, refl, ap, ◌∙◌, subst, inl, inr, arith}
 use Rattle.std.proofs.lemmas.Bool.{cases_order, both_ways}
 use Rattle.terms.specs.Month.{Month, nothing, to_buy, to_sell}
 use Rattle.terms.specs.Selection.{Selection, FiveRules}
@@ -11,14 +11,7 @@ use Rattle.terms.proofs.Alone.{selection_alone}
 
 -- a day has one next business day
 pub next_alone : (business : ℕ → Bool) (day d e : ℕ) → NextBusinessDay business day d → NextBusinessDay business day e → d ≡ e
-next_alone business day d e p q =
-    elim (cases_order d e) [
-      | inl s ↦ s
-      | inr o ↦ elim o [
-        | inl l ↦ absurd (both_ways (business d) (q.none_between d p.later l) p.works)
-        | inr l ↦ absurd (both_ways (business e) (p.none_between e q.later l) q.works)
-      ]
-    ]
+next_alone business day d e p q = grind (arith, q.none_between d p.later, p.none_between e q.later, p.works, q.works)
 
 module _ (u : Setup) where
   begun : (m n : Month) (d e : ℕ) → m ≡ n → NextBusinessDay u.business m.today d → NextBusinessDay u.business n.today e → start_day d m ≡ start_day e n

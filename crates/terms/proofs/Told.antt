@@ -18,7 +18,7 @@ use Rattle.terms.specs.declared.rows.Row.{Row}
 use Rattle.terms.specs.declared.rows.Row.TheVariants.{ClassLots, Leg}
 use Rattle.terms.proofs.Sums.{has_cases, sum_zero, sum_listed}
 use Rattle.terms.proofs.Rising.{sum_same_in, days_rising, sum_no_term, sum_one_term}
-use Rattle.terms.proofs.Alone.{there_known, there_day}
+use Rattle.terms.proofs.Alone.{there_known, there_day, letter_same, class_cases}
 use Rattle.terms.proofs.Exists.{within, chosen_keeps}
 
 -- rows listed one behind the other
@@ -34,17 +34,6 @@ here a' d' c' a d c = eqb a' a && eqb d' d && eqb (letter c') (letter c)
 
 told_row : (c' : Class) (a' d' n a d : ℕ) (c : Class) → told (lots_row c' a' d' n) a d c ≡ cond (here a' d' c' a d c) n 0
 told_row c' a' d' n a d c = grind (arith, nat_tests)
-
-letter_same : (c' c : Class) → eqb (letter c') (letter c) ≡ true → c' ≡ c
-letter_same Declared Declared h = refl
-letter_same Declared Undeclared h = absurd (false≢true h)
-letter_same Declared Virtual h = absurd (false≢true h)
-letter_same Undeclared Declared h = absurd (false≢true h)
-letter_same Undeclared Undeclared h = refl
-letter_same Undeclared Virtual h = absurd (false≢true h)
-letter_same Virtual Declared h = absurd (false≢true h)
-letter_same Virtual Undeclared h = absurd (false≢true h)
-letter_same Virtual Virtual h = refl
 
 -- the rows of one class, by day and account
 abbrev class_rows : Selection → Class → List ℕ → List ℕ → List Row
@@ -65,8 +54,8 @@ module _ (sel : Selection) (accounts days : List ℕ) (ra : Rising accounts) (rd
       ∙ sum_no_term (λ y. told (group_rows sel c' accounts y) a d c) days
       (λ y j. group_sum c' y c ∙ sum_no_term (λ x. told (lots_row c' x y (sel x y c')) a d c) accounts (λ x i. h x y))
 
-  class_apart : (c' c : Class) → eqb (letter c') (letter c) ≡ false → told (class_rows sel c' accounts days) a d c ≡ 0
-  class_apart c' c e = class_none c' c (λ x y. grind (arith, nat_tests, told_row c' x y (sel x y c') a d c))
+  class_apart : (c' c : Class) → (c' ≡ c → ⊥) → told (class_rows sel c' accounts days) a d c ≡ 0
+  class_apart c' c ne = class_none c' c (λ x y. grind (arith, nat_tests, ne, letter_same c' c, told_row c' x y (sel x y c') a d c))
 
   row_other_day : (c : Class) (x y : ℕ) → (y ≡ d → ⊥) → told (lots_row c x y (sel x y c)) a d c ≡ 0
   row_other_day c x y ne = grind (arith, nat_tests, ne, told_row c x y (sel x y c) a d c)
@@ -84,52 +73,29 @@ module _ (sel : Selection) (accounts days : List ℕ) (ra : Rising accounts) (rd
   -- rows of its own class tell its lots
   class_own : (c : Class) → (0 < sel a d c → (has a accounts ≡ true) × (has d days ≡ true)) → told (class_rows sel c accounts days) a d c ≡ sel a d c
   class_own c h =
-      elim (cases_lt 0 (sel a d c)) [
-        | inl l ↦
-            class_sum c c
-            ∙ sum_one_term (λ y. told (group_rows sel c accounts y) a d c) d days rd (h l).1 (other_day c)
-            ∙ group_sum c d c
-            ∙ sum_one_term (λ x. told (lots_row c x d (sel x d c)) a d c) a accounts ra (h l).0 (λ x. row_other_account c x d)
-            ∙ own_row c
-        | inr z ↦
-            class_none c c (λ x y. elim (cases_eq x a) [
-              | inl e ↦ elim (cases_eq y d) [
-                | inl q ↦ subst (λ v. told (lots_row c v y (sel v y c)) a d c ≡ 0) (sym e)
-                    (subst (λ v. told (lots_row c a v (sel a v c)) a d c ≡ 0) (sym q) (omega (arith, own_row c)))
-                | inr ne ↦ row_other_day c x y ne
-              ]
-              | inr ne ↦ row_other_account c x y ne
-            ])
-            ∙ omega arith
-      ]
+        elim (cases_lt 0 (sel a d c)) [
+          | inl l ↦
+              class_sum c c
+              ∙ sum_one_term (λ y. told (group_rows sel c accounts y) a d c) d days rd (h l).1 (other_day c)
+              ∙ group_sum c d c
+              ∙ sum_one_term (λ x. told (lots_row c x d (sel x d c)) a d c) a accounts ra (h l).0 (λ x. row_other_account c x d)
+              ∙ own_row c
+          | inr z ↦ class_none c c (λ x y. grind (arith, nat_tests, told_row c x y (sel x y c) a d c)) ∙ omega arith
+        ]
 
   -- the rows of two classes tell the lots of both
   two_classes : (o c : Class) → (0 < sel a d c → (has a accounts ≡ true) × (has d days ≡ true)) →
-      eqb (letter Declared) (letter o) ≡ false → (0 < sel a d c → (Declared ≡ c) ⊎ (o ≡ c)) →
+      (Declared ≡ o → ⊥) → (0 < sel a d c → (Declared ≡ c) ⊎ (o ≡ c)) →
       told (class_rows sel Declared accounts days ++ class_rows sel o accounts days) a d c ≡ sel a d c
   two_classes o c h ne k =
-      told_append (class_rows sel Declared accounts days) (class_rows sel o accounts days) a d c
-      ∙ (elim (cases_Bool (eqb (letter Declared) (letter c))) [
-        | inl p ↦
-            let q : Declared ≡ c = letter_same Declared c p in
-            let v : eqb (letter o) (letter c) ≡ false =
-            ne_eqb (letter o) (letter c) (λ w. eqb-false (letter Declared) (letter o) ne (eqb-true (letter Declared) (letter c) p ∙ sym w)) in
-            omega (arith, class_apart o c v, subst (λ x. told (class_rows sel x accounts days) a d c ≡ sel a d c) (sym q) (class_own c h))
-        | inr p ↦ elim (cases_Bool (eqb (letter o) (letter c))) [
-          | inl s ↦
-              let q : o ≡ c = letter_same o c s in
-              omega (arith, class_apart Declared c p, subst (λ x. told (class_rows sel x accounts days) a d c ≡ sel a d c) (sym q) (class_own c h))
-          | inr s ↦
-              let z : sel a d c ≡ 0 = elim (cases_lt 0 (sel a d c)) [
-                | inl l ↦ elim (k l) [
-                  | inl q ↦ absurd (eqb-false (letter Declared) (letter c) p (ap letter q))
-                  | inr q ↦ absurd (eqb-false (letter o) (letter c) s (ap letter q))
-                ]
-                | inr y ↦ omega arith
-              ] in
-              omega (arith, class_apart Declared c p, class_apart o c s)
+      let both = told_append (class_rows sel Declared accounts days) (class_rows sel o accounts days) a d c in
+      elim (class_cases Declared c) [
+        | inl q ↦ grind (arith, both, class_apart o c (λ e. ne (q ∙ sym e)), class_own c h)
+        | inr n ↦ elim (class_cases o c) [
+          | inl q ↦ grind (arith, both, class_apart Declared c n, class_own c h)
+          | inr s ↦ grind (arith, both, n, s, k, class_apart Declared c n, class_apart o c s)
         ]
-      ])
+      ]
 
 -- a class with lots is one of the two whose rows are written
 there_class : (m : Month) (a d : ℕ) (c : Class) → 0 < lots_there m a d c → (Declared ≡ c) ⊎ (other_class m ≡ c)
@@ -137,8 +103,8 @@ there_class m a d Declared l = inl refl
 there_class m a d Undeclared l = grind arith
 there_class m a d Virtual l = grind arith
 
-other_apart : (m : Month) → eqb (letter Declared) (letter (other_class m)) ≡ false
-other_apart m = grind arith
+other_apart : (m : Month) → Declared ≡ other_class m → ⊥
+other_apart m = cond_both (final m) Virtual Undeclared (λ o. Declared ≡ o → ⊥) (λ f e. cc) (λ f e. cc)
 
 -- rows of a selection tell it, before rows that tell nothing
 pub told_selection : (m : Month) (sel : Selection) → Rising m.accounts → ((a d : ℕ) (c : Class) → sel a d c ≤ lots_there m a d c) →
