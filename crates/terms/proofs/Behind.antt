@@ -60,7 +60,7 @@ leg_counts p b n = grind (arith, nat_tests)
 -- without lots nothing is moved
 pub behind_zero : (n : ℕ) (bs : List Part) → n ≡ 0 → behind n bs ≡ bs
 behind_zero n [] e = refl
-behind_zero n (b ∷ bs) e = ap₂ (λ k ks. part b.account k ∷ ks) (omega arith) (behind_zero (n - b.lots) bs (omega arith))
+behind_zero n (b ∷ bs) e = grind (arith, behind_zero (n - b.lots) bs)
 
 -- the legs of one piece
 pub behind_lots : (n : ℕ) (bs : List Part) → lots_on_line (behind n bs) ≡ lots_on_line bs - n

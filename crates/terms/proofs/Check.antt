@@ -5,6 +5,8 @@ use Rattle.std.proofs.lemmas.List.Sums.{sum_by-cons}
 use Rattle.std.proofs.lemmas.Bool.{cases_lt, cases_Bool, eqb-true, leb-true, ltb-true, lt-ltb, and_parts, or_cases, false≢true, both_ways, not-true, cond-false}
 use Rattle.std.proofs.lemmas.Bool.Decides.{nat_tests}
 use Rattle.std.specs.List.{list_all}
+use Rattle.std.specs.Str.{bytes_eq as same_list}
+use Rattle.std.proofs.lemmas.Slice.Eq.{bytes_eq-Decides}
 use Rattle.terms.specs.Month.{Month, has, lots_there, holders, purchase_days, effective_sale}
 use Rattle.terms.specs.OddLots.{OddLotRule}
 use Rattle.terms.specs.Selection.{Selection, FiveRules, letter, told_by, told, taken_from, taken_there}
@@ -28,18 +30,6 @@ classes_at : (p : Class → Bool) → classes p ≡ true → (c : Class) → p c
 classes_at p h Declared = grind arith
 classes_at p h Undeclared = grind arith
 classes_at p h Virtual = grind arith
-
-abbrev pub same_list : List ℕ → List ℕ → Bool
-same_list [] [] = true
-same_list [] (y ∷ ys) = false
-same_list (x ∷ xs) [] = false
-same_list (x ∷ xs) (y ∷ ys) = eqb x y && same_list xs ys
-
-same_list_eq : (xs ys : List ℕ) → same_list xs ys ≡ true → xs ≡ ys
-same_list_eq [] [] h = refl
-same_list_eq [] (y ∷ ys) h = absurd (false≢true h)
-same_list_eq (x ∷ xs) [] h = absurd (false≢true h)
-same_list_eq (x ∷ xs) (y ∷ ys) h = grind (arith, nat_tests, same_list_eq xs ys)
 
 -- the rows name accounts and days of the month
 abbrev pub inside : Month → List Row → Bool
@@ -141,7 +131,7 @@ module _ (share : OddLotRule) (m : Month) (sel : Selection) where
             grind (
               arith,
               nat_tests,
-              same_list_eq (map (λ a. sel a d c) (holders m c d)) (share (map (λ a. lots_there m a d c) (holders m c d)) (taken_there m sel c d)),
+              bytes_eq-Decides (map (λ a. sel a d c) (holders m c d)) (share (map (λ a. lots_there m a d c) (holders m c d)) (taken_there m sel c d)),
               all_has (λ y. not (ltb 0 (length (holders m c y))) ||
                   same_list (map (λ a. sel a y c) (holders m c y)) (share (map (λ a. lots_there m a y c) (holders m c y)) (taken_there m sel c y)))
                   (purchase_days m) d (classes_at shared_ok h c) day,

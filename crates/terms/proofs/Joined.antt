@@ -39,28 +39,22 @@ met_zero s n (b ∷ bs) ps e =
 behind_join : (n k : ℕ) (bs : List Part) → behind k (behind n bs) ≡ behind (n + k) bs
 behind_join n k [] = refl
 behind_join n k (b ∷ bs) =
-    ap₂ (λ x xs. part b.account x ∷ xs) (omega arith)
-    (elim (cases_lt n b.lots) [
-      | inl l ↦ ap (behind (k - (b.lots - n))) (behind_zero (n - b.lots) bs (omega arith)) ∙ ap (λ x. behind x bs) (omega arith)
-      | inr r ↦ behind_join (n - b.lots) (k - (b.lots - n)) bs ∙ ap (λ x. behind x bs) (omega arith)
-    ])
+    grind (arith, behind_zero (n - b.lots) bs, behind_join (n - b.lots) (k - (b.lots - n)) bs)
 
 met_join : (s n k : ℕ) (bs : List Part) (ps : List Pair) → met s k (behind n bs) (met s n bs ps) ≡ met s (n + k) bs ps
 met_join s n k [] ps = refl
 met_join s n k (b ∷ bs) ps =
-    let c = b.account in
     let l = b.lots in
-    elim (cases_lt n b.lots) [
-      | inl i ↦
-          ap (λ x. met s (k - (l - n)) (behind (n - l) bs) (with_lots s c (min k (l - n)) x)) (met_zero s (n - l) bs (with_lots s c (min n l) ps) (omega arith))
-          ∙ ap (λ x. met s (k - (l - n)) x (with_lots s c (min k (l - n)) (with_lots s c (min n l) ps))) (behind_zero (n - l) bs (omega arith))
-          ∙ ap (met s (k - (l - n)) bs) (lots_twice s c (min n l) (min k (l - n)) ps)
-          ∙ ap₂ (λ x y. met s x bs (with_lots s c y ps)) (omega arith) (omega arith)
-      | inr r ↦
-          ap (met s (k - (l - n)) (behind (n - l) bs)) (lots_nil s c (min k (l - n)) (met s (n - l) bs (with_lots s c (min n l) ps)) (omega arith))
-          ∙ met_join s (n - l) (k - (l - n)) bs (with_lots s c (min n l) ps)
-          ∙ ap₂ (λ x y. met s x bs (with_lots s c y ps)) (omega arith) (omega arith)
-    ]
+    let meet : min n l + min k (l - n) ≡ min (n + k) l = omega arith in
+    grind (
+      arith,
+      meet,
+      met_zero s (n - l) bs (with_lots s b.account (min n l) ps),
+      behind_zero (n - l) bs,
+      lots_twice s b.account (min n l) (min k (l - n)) ps,
+      lots_nil s b.account (min k (l - n)) (met s (n - l) bs (with_lots s b.account (min n l) ps)),
+      met_join s (n - l) (k - (l - n)) bs (with_lots s b.account (min n l) ps),
+    )
 
 -- a sellers' line meets the buyers' line
 abbrev pub meets : List Piece → List Part → List Pair → List Pair
