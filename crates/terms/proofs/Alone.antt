@@ -1,17 +1,17 @@
 -- One selection keeps the five rules, and one plain month is left by a list of calls. Assumes nothing.
-use Rattle.std.proofs.Common.{◌≡◌, ℕ, ◌+◌, ◌-◌, ◌<◌, ◌≤◌, true, false, cond, eqb, ltb, ◌⊎◌, List, [], ◌∷◌, map, sum_by, sym, refl, ap, ◌∙◌, subst, inl, inr, arith}
+use Rattle.std.proofs.Common.{◌≡◌, ℕ, ◌+◌, ◌<◌, ◌≤◌, true, cond, eqb, ltb, ◌⊎◌, List, [], ◌∷◌, map, sum_by, sym, refl, ap, ◌∙◌, subst, inl, inr, arith}
 use mathlib.Core.Path.{fun_ext}
 use Rattle.std.proofs.lemmas.List.Sums.{sum_by-cons, sum_by-le-sum_by}
-use Rattle.std.proofs.lemmas.Bool.{cases_lt, cases_Bool, cases_order, cases_eq, eqb-true, eq-eqb, ltb-false, lt-ltb, false≢true, cond-true, cond-false, cond_both, or_left, eqb-false}
+use Rattle.std.proofs.lemmas.Bool.{cases_lt, cases_Bool, cases_eq, ltb-false, lt-ltb, false≢true, eqb-false}
 use Rattle.std.proofs.lemmas.Bool.Decides.{nat_tests}
 use Rattle.terms.specs.Lots.{Dated, Position, lots_of_day}
-use Rattle.terms.specs.Month.{Month, has, held, covered, final, lots_there, holders, purchase_days, with_day, with_days, days_among}
+use Rattle.terms.specs.Month.{Month, has, held, lots_there, holders, purchase_days, with_day, with_days, days_among}
 use Rattle.terms.specs.OddLots.{OddLotRule}
 use Rattle.terms.specs.Selection.{Selection, FiveRules, letter, taken_on, taken_from, taken_there}
 use Rattle.terms.specs.Facts.{SelectionAlone}
 use Rattle.terms.specs.declared.rows.Class.{Class}
 use Rattle.terms.specs.declared.rows.Class.TheVariants.{Declared, Undeclared, Virtual}
-use Rattle.terms.proofs.Sums.{has_there, has_cases, has_length, sum_lt, sum_gap, sum_add, sum_swap, sum_kept, has_kept, map_agrees}
+use Rattle.terms.proofs.Sums.{has_length, sum_lt, sum_gap, sum_add, sum_swap, sum_kept, has_kept, map_agrees}
 
 -- lots of a class are held lots
 pub there_le_held : (m : Month) (a d : ℕ) (c : Class) → lots_there m a d c ≤ held m a d
@@ -67,8 +67,11 @@ total_by_day m s = sum_swap (λ a d. taken_on s a d) m.accounts (purchase_days m
 day_by_class : (m : Month) (s : Selection) (d : ℕ) → day_total m s d ≡ group m s Declared d + group m s Undeclared d + group m s Virtual d
 unfolding day_total group
 day_by_class m s d =
-    sum_add (λ a. s a d Declared + s a d Undeclared) (λ a. s a d Virtual) m.accounts
-    ∙ ap (λ n. n + sum_by (λ a. s a d Virtual) m.accounts) (sum_add (λ a. s a d Declared) (λ a. s a d Undeclared) m.accounts)
+    omega (
+      arith,
+      sum_add (λ a. s a d Declared + s a d Undeclared) (λ a. s a d Virtual) m.accounts,
+      sum_add (λ a. s a d Declared) (λ a. s a d Undeclared) m.accounts,
+    )
 
 pub letter_same : (c' c : Class) → eqb (letter c') (letter c) ≡ true → c' ≡ c
 letter_same Declared Declared h = refl
@@ -144,23 +147,23 @@ module _ (share : OddLotRule) (m : Month) (s t : Selection) (ks : FiveRules shar
 
   not_less : (c : Class) (d : ℕ) → group m s c d < group m t c d → ⊥
   not_less c d g =
-        let r = group_gap c d g in
-        let today = this_day c r.0 d r.2 g in
-        let days : (y : ℕ) → day_total m s y ≤ day_total m t y = λ y. grind (arith, nat_tests, today, cases_eq d y, other_day c r.0 d y r.2) in
-        omega (
-          arith,
-          sum_lt (day_total m s) (day_total m t) (purchase_days m) d (there_day m r.0 d c (omega (arith, kt.within r.0 d c, r.2))) days today,
-          total_by_day m s,
-          total_by_day m t,
-          ks.complete,
-          kt.complete,
-        )
+      let r = group_gap c d g in
+      let today = this_day c r.0 d r.2 g in
+      let days : (y : ℕ) → day_total m s y ≤ day_total m t y = λ y. grind (arith, nat_tests, today, cases_eq d y, other_day c r.0 d y r.2) in
+      omega (
+        arith,
+        sum_lt (day_total m s) (day_total m t) (purchase_days m) d (there_day m r.0 d c (omega (arith, kt.within r.0 d c, r.2))) days today,
+        total_by_day m s,
+        total_by_day m t,
+        ks.complete,
+        kt.complete,
+      )
 
 module _ (share : OddLotRule) (m : Month) (s t : Selection) (ks : FiveRules share m s) (kt : FiveRules share m t) where
   same_there : (c : Class) (d : ℕ) → taken_there m s c d ≡ taken_there m t c d
   same_there c d =
-        let one : group m s c d ≡ group m t c d = grind (arith, not_less share m s t ks kt c d, not_less share m t s kt ks c d) in
-        there_group share m s t ks kt c d ∙ one ∙ sym (there_group share m t s kt ks c d)
+      let one : group m s c d ≡ group m t c d = grind (arith, not_less share m s t ks kt c d, not_less share m t s kt ks c d) in
+      there_group share m s t ks kt c d ∙ one ∙ sym (there_group share m t s kt ks c d)
 
   same_at : (a d : ℕ) (c : Class) → s a d c ≡ t a d c
   same_at a d c =

@@ -1,20 +1,19 @@
 -- A test that computes, for the rows of a draw on a month that is written out: where it passes, the rows' selection keeps the five rules.
 -- Assumes nothing.
-use Rattle.std.proofs.Common.{◌≡◌, ℕ, ◌+◌, ◌<◌, ◌≤◌, Bool, true, false, not, ◌&&◌, ◌||◌, eqb, ltb, leb, List, [], ◌∷◌, map, length, sum_by, filter, refl, subst, ap₂, inl, inr, arith}
+use Rattle.std.proofs.Common.{◌≡◌, ℕ, ◌+◌, ◌<◌, ◌≤◌, Bool, true, not, ◌&&◌, ◌||◌, eqb, ltb, leb, List, [], ◌∷◌, map, length, sum_by, filter, inl, inr, arith}
 use Rattle.std.proofs.lemmas.List.Sums.{sum_by-cons}
-use Rattle.std.proofs.lemmas.Bool.{cases_lt, cases_Bool, eqb-true, leb-true, ltb-true, lt-ltb, and_parts, or_cases, false≢true, both_ways, not-true, cond-false}
+use Rattle.std.proofs.lemmas.Bool.{cases_Bool, ltb-true, or_cases, false≢true}
 use Rattle.std.proofs.lemmas.Bool.Decides.{nat_tests}
 use Rattle.std.specs.List.{list_all}
 use Rattle.std.specs.Str.{bytes_eq as same_list}
 use Rattle.std.proofs.lemmas.Slice.Eq.{bytes_eq-Decides}
 use Rattle.terms.specs.Month.{Month, has, lots_there, holders, purchase_days, effective_sale}
 use Rattle.terms.specs.OddLots.{OddLotRule}
-use Rattle.terms.specs.Selection.{Selection, FiveRules, letter, told_by, told, taken_from, taken_there}
+use Rattle.terms.specs.Selection.{Selection, FiveRules, told_by, told, taken_from, taken_there}
 use Rattle.terms.specs.declared.rows.Class.{Class}
 use Rattle.terms.specs.declared.rows.Class.TheVariants.{Declared, Undeclared, Virtual}
 use Rattle.terms.specs.declared.rows.Row.{Row}
 use Rattle.terms.specs.declared.rows.Row.TheVariants.{ClassLots, Leg, Refused}
-use Rattle.terms.proofs.Sums.{has_cases}
 use Rattle.terms.proofs.Alone.{there_known, there_day}
 
 -- a test of each number of a list, at one of them
@@ -86,12 +85,12 @@ module _ (share : OddLotRule) (m : Month) (sel : Selection) where
   module _ (in-month : (a d : ℕ) (c : Class) → 0 < sel a d c → (has a m.accounts ≡ true) × (has d (purchase_days m) ≡ true)) where
     within_at : classes within_ok ≡ true → (a d : ℕ) (c : Class) → sel a d c ≤ lots_there m a d c
     within_at h a d c =
-            grind (
-              arith,
-              nat_tests,
-              in-month a d c,
-              everywhere_at (λ x y. leb (sel x y c) (lots_there m x y c)) a d (classes_at within_ok h c),
-            )
+        grind (
+          arith,
+          nat_tests,
+          in-month a d c,
+          everywhere_at (λ x y. leb (sel x y c) (lots_there m x y c)) a d (classes_at within_ok h c),
+        )
 
     other_in : (a d : ℕ) → 0 < sel a d Undeclared + sel a d Virtual → (has a m.accounts ≡ true) × (has d (purchase_days m) ≡ true)
     other_in a d l = grind (arith, in-month a d Undeclared, in-month a d Virtual)
@@ -99,43 +98,43 @@ module _ (share : OddLotRule) (m : Month) (sel : Selection) where
     declared_at : (none_other || all_taken Declared) ≡ true → (a d a' d' : ℕ) → 0 < sel a d Undeclared + sel a d Virtual →
         lots_there m a' d' Declared ≤ sel a' d' Declared
     declared_at h a d a' d' l =
-            elim (or_cases none_other (all_taken Declared) h) [
-              | inl none ↦
-                  grind (
-                    arith,
-                    nat_tests,
-                    other_in a d l,
-                    everywhere_at (λ x y. eqb (sel x y Undeclared + sel x y Virtual) 0) a d none,
-                  )
-              | inr taken ↦ taken_at a' d' Declared (λ k.
-                  everywhere_at (λ x y. leb (lots_there m x y Declared) (sel x y Declared)) a' d' taken (there_known m a' d' Declared k) (there_day m a' d' Declared k))
-            ]
+        elim (or_cases none_other (all_taken Declared) h) [
+          | inl none ↦
+              grind (
+                arith,
+                nat_tests,
+                other_in a d l,
+                everywhere_at (λ x y. eqb (sel x y Undeclared + sel x y Virtual) 0) a d none,
+              )
+          | inr taken ↦ taken_at a' d' Declared (λ k.
+              everywhere_at (λ x y. leb (lots_there m x y Declared) (sel x y Declared)) a' d' taken (there_known m a' d' Declared k) (there_day m a' d' Declared k))
+        ]
 
     oldest_at : classes oldest_ok ≡ true → (c : Class) (a d a' d' : ℕ) → d' < d → 0 < sel a d c → lots_there m a' d' c ≤ sel a' d' c
     oldest_at h c a d a' d' older l =
-            let i = in-month a d c l in
-            let taken : older_taken c d ≡ true =
-            grind (arith, nat_tests, everywhere_at (λ x y. eqb (sel x y c) 0 || older_taken c y) a d (classes_at oldest_ok h c) i.0 i.1) in
-            taken_at a' d' c (λ k.
-            grind (
-              arith,
-              nat_tests,
-              everywhere_at (λ x y. not (ltb y d) || leb (lots_there m x y c) (sel x y c)) a' d' taken (there_known m a' d' c k) (there_day m a' d' c k),
-            ))
+        let i = in-month a d c l in
+        let taken : older_taken c d ≡ true =
+        grind (arith, nat_tests, everywhere_at (λ x y. eqb (sel x y c) 0 || older_taken c y) a d (classes_at oldest_ok h c) i.0 i.1) in
+        taken_at a' d' c (λ k.
+        grind (
+          arith,
+          nat_tests,
+          everywhere_at (λ x y. not (ltb y d) || leb (lots_there m x y c) (sel x y c)) a' d' taken (there_known m a' d' c k) (there_day m a' d' c k),
+        ))
 
     shared_at : classes shared_ok ≡ true → (c : Class) (d : ℕ) → 0 < length (holders m c d) →
         map (λ a. sel a d c) (holders m c d) ≡ share (map (λ a. lots_there m a d c) (holders m c d)) (taken_there m sel c d)
     shared_at h c d l =
-            let r = kept_some (λ a. ltb 0 (lots_there m a d c)) m.accounts l in
-            let day = there_day m r.0 d c (ltb-true 0 (lots_there m r.0 d c) r.1) in
-            grind (
-              arith,
-              nat_tests,
-              bytes_eq-Decides (map (λ a. sel a d c) (holders m c d)) (share (map (λ a. lots_there m a d c) (holders m c d)) (taken_there m sel c d)),
-              all_has (λ y. not (ltb 0 (length (holders m c y))) ||
-                  same_list (map (λ a. sel a y c) (holders m c y)) (share (map (λ a. lots_there m a y c) (holders m c y)) (taken_there m sel c y)))
-                  (purchase_days m) d (classes_at shared_ok h c) day,
-            )
+        let r = kept_some (λ a. ltb 0 (lots_there m a d c)) m.accounts l in
+        let day = there_day m r.0 d c (ltb-true 0 (lots_there m r.0 d c) r.1) in
+        grind (
+          arith,
+          nat_tests,
+          bytes_eq-Decides (map (λ a. sel a d c) (holders m c d)) (share (map (λ a. lots_there m a d c) (holders m c d)) (taken_there m sel c d)),
+          all_has (λ y. not (ltb 0 (length (holders m c y))) ||
+              same_list (map (λ a. sel a y c) (holders m c y)) (share (map (λ a. lots_there m a y c) (holders m c y)) (taken_there m sel c y)))
+              (purchase_days m) d (classes_at shared_ok h c) day,
+        )
 
 -- the five rules from the tests
 pub five_rules : (share : OddLotRule) (m : Month) (rows : List Row) →

@@ -1,9 +1,9 @@
 -- The legs of a round tell two lists of pairs as they should be. Assumes nothing.
-use Rattle.std.proofs.Common.{◌≡◌, ℕ, ◌+◌, ◌-◌, ◌≤◌, min, Bool, true, false, cond, ◌&&◌, eqb, ◌⊎◌, List, [], ◌∷◌, ◌++◌, map, length, Some, None, fold, sum_by, Option, sym, refl, ap, ◌∙◌, subst, inl, inr, arith}
+use Rattle.std.proofs.Common.{◌≡◌, ℕ, ◌+◌, ◌-◌, ◌≤◌, min, Bool, true, false, cond, eqb, ◌⊎◌, List, [], ◌∷◌, ◌++◌, map, length, Some, None, fold, sum_by, Option, sym, refl, ap, ◌∙◌, subst, inl, inr, arith}
 use Rattle.std.specs.List.{flat_map, AllByRecursion}
 use Rattle.std.proofs.lemmas.List.Sums.{sum_by-cons, fold-append}
 use Rattle.std.proofs.ByRecursion.{All-append}
-use Rattle.std.proofs.lemmas.Bool.{cases_lt, cases_Bool, eq-eqb, ne_eqb, false≢true, cond-true, cond-false, cond_both}
+use Rattle.std.proofs.lemmas.Bool.{cases_lt, cond_both}
 use Rattle.std.proofs.lemmas.Bool.Decides.{nat_tests}
 use Rattle.std.proofs.lemmas.List.Folds.{fold-map}
 use Rattle.terms.specs.Lots.{lots_in}
@@ -19,7 +19,7 @@ use Rattle.terms.specs.declared.rows.Class.{Class}
 use Rattle.terms.specs.declared.rows.Class.TheVariants.{Declared}
 use Rattle.terms.specs.declared.rows.Row.{Row}
 use Rattle.terms.specs.declared.rows.Row.TheVariants.{ClassLots, Leg, Refused}
-use Rattle.terms.proofs.Sums.{has_here, has_there, has_cases, sum_empty, sum_add, sum_same}
+use Rattle.terms.proofs.Sums.{sum_empty, sum_add, sum_same}
 use Rattle.terms.proofs.Lines.{count_sides}
 use Rattle.terms.proofs.Legs.{with_leg_sold, with_leg_bought}
 use Rattle.terms.proofs.Behind.{sells, buys, piece_lots, some, full_pieces, full_parts, legs_sold, legs_bought, legs_none, legs_few}

@@ -1,8 +1,8 @@
 -- The legs of a round: the pairs that they tell, and how many there are. Assumes nothing.
-use Rattle.std.proofs.Common.{◌≡◌, ℕ, ◌≤◌, sum_by, sym, ◌∙◌, subst, inl, inr, arith}
+use Rattle.std.proofs.Common.{ℕ, ◌≤◌, sum_by, sym, subst, inl, inr, arith}
 use Rattle.std.proofs.lemmas.List.Sums.{sum_by-le-sum_by}
-use Rattle.std.proofs.lemmas.Bool.{cases_Bool, cond-false}
-use Rattle.terms.specs.Lots.{lots_in, lots_of_day}
+use Rattle.std.proofs.lemmas.Bool.{cases_Bool}
+use Rattle.terms.specs.Lots.{lots_in}
 use Rattle.terms.specs.Month.{Month, has, held, purchase_days}
 use Rattle.terms.specs.OddLots.{OddLotRule, KeepsMeaning}
 use Rattle.terms.specs.Selection.{taken_on, taken_from}
@@ -10,7 +10,6 @@ use Rattle.terms.specs.Pairs.{Paired}
 use Rattle.terms.specs.Rounds.{chosen, round_rows}
 use Rattle.terms.specs.Facts.{Sound, SoundSides, RoundPairs, FewLegs}
 use Rattle.terms.specs.declared.rows.Class.TheVariants.{Declared, Undeclared, Virtual}
-use Rattle.terms.proofs.Sums.{sum_same, sum_zero}
 use Rattle.terms.proofs.Exists.{classes_held, held_all, within, chosen_keeps}
 use Rattle.terms.proofs.Told.{told_round}
 use Rattle.terms.proofs.Deliveries.{round_paired}
@@ -32,10 +31,10 @@ module _ (share : OddLotRule) (m : Month) (keeps : KeepsMeaning share) (sound : 
 
   pub taken_within : (a : ℕ) → taken_from m (chosen share m) a ≤ lots_in (m.positions a).long
   taken_within a =
-        elim (cases_Bool (has a m.accounts)) [
-          | inl i ↦ omega (arith, taken_held a, held_all m a i)
-          | inr n ↦ omega (arith, taken_held a, sum_no_term (held m a) (purchase_days m) (λ d h. grind arith))
-        ]
+      elim (cases_Bool (has a m.accounts)) [
+        | inl i ↦ omega (arith, taken_held a, held_all m a i)
+        | inr n ↦ omega (arith, taken_held a, sum_no_term (held m a) (purchase_days m) (λ d h. grind arith))
+      ]
 
   paired : SoundSides m → Paired m (chosen share m) (round_rows share m)
   paired sides = round_paired m (chosen share m) sound sides taken_within (chosen_keeps share m keeps sound).complete

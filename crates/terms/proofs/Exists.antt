@@ -1,14 +1,12 @@
 -- A selection that keeps the five rules exists over every sound month. Assumes nothing.
-use Rattle.std.proofs.Common.{◌≡◌, ℕ, ◌+◌, ◌-◌, ◌*◌, ◌/◌, ◌<◌, ◌≤◌, true, cond, eqb, ltb, List, [], ◌∷◌, map, length, get_or, sum_by, sum, sym, refl, ap, ◌∙◌, subst, ap₂, inl, inr, mul-div_cancel, arith}
+use Rattle.std.proofs.Common.{◌≡◌, ℕ, ◌+◌, ◌*◌, ◌/◌, ◌<◌, ◌≤◌, true, cond, eqb, ltb, List, [], ◌∷◌, map, length, get_or, sum_by, sum, sym, ap, ◌∙◌, subst, inl, inr, mul-div_cancel, arith}
 use lib.ListN.{length-map}
 use Rattle.std.specs.List.{AllByRecursion}
 use Rattle.std.proofs.ByRecursion.{All-map}
-use Rattle.std.proofs.lemmas.List.Sums.{sum_by-cons, sum-map, sum_by-le-sum_by}
-use Rattle.std.proofs.lemmas.Bool.{cases_lt, cases_Bool, ltb-true, ltb-false, lt-ltb, cond-true, cond-false, cond_both}
-use Rattle.std.proofs.lemmas.Bool.Decides.{nat_tests}
-use Rattle.std.proofs.lemmas.List.{nil_from_length}
+use Rattle.std.proofs.lemmas.List.Sums.{sum-map, sum_by-le-sum_by}
+use Rattle.std.proofs.lemmas.Bool.{cases_lt, ltb-true, ltb-false, lt-ltb, cond-true}
 use Rattle.terms.specs.Lots.{Dated, lots_in, lots_of_day}
-use Rattle.terms.specs.Month.{Month, has, held, covered, final, lots_there, holders, purchase_days, effective_sale}
+use Rattle.terms.specs.Month.{Month, has, held, lots_there, holders, purchase_days, effective_sale}
 use Rattle.terms.specs.OddLots.{OddLotRule, KeepsMeaning, Shareable, Shares}
 use Rattle.terms.specs.Selection.{FiveRules, taken_on, taken_from, taken_there}
 use Rattle.terms.specs.Rounds.{asked, group_size, class_size, to_deliver, wanted, amount, chosen}
@@ -37,10 +35,15 @@ size_all m c d = sum_kept (λ a. lots_there m a d c) (λ a. ltb 0 (lots_there m 
 
 sizes_held : (m : Month) (d : ℕ) → group_size m Declared d + group_size m Undeclared d + group_size m Virtual d ≡ sum_by (λ a. held m a d) m.accounts
 sizes_held m d =
-    ap₂ ◌+◌ (ap₂ ◌+◌ (size_all m Declared d) (size_all m Undeclared d)) (size_all m Virtual d)
-    ∙ ap (λ x. x + sum_by (λ a. lots_there m a d Virtual) m.accounts) (sym (sum_add (λ a. lots_there m a d Declared) (λ a. lots_there m a d Undeclared) m.accounts))
-    ∙ sym (sum_add (λ a. lots_there m a d Declared + lots_there m a d Undeclared) (λ a. lots_there m a d Virtual) m.accounts)
-    ∙ sum_same (λ a. lots_there m a d Declared + lots_there m a d Undeclared + lots_there m a d Virtual) (λ a. held m a d) m.accounts (λ a. classes_held m a d)
+    omega (
+      arith,
+      size_all m Declared d,
+      size_all m Undeclared d,
+      size_all m Virtual d,
+      sum_add (λ a. lots_there m a d Declared) (λ a. lots_there m a d Undeclared) m.accounts,
+      sum_add (λ a. lots_there m a d Declared + lots_there m a d Undeclared) (λ a. lots_there m a d Virtual) m.accounts,
+      sum_same (λ a. lots_there m a d Declared + lots_there m a d Undeclared + lots_there m a d Virtual) (λ a. held m a d) m.accounts (λ a. classes_held m a d),
+    )
 
 pub held_all : (m : Month) (a : ℕ) → has a m.accounts ≡ true → sum_by (λ d. held m a d) (purchase_days m) ≡ lots_in (m.positions a).long
 held_all m a i =
@@ -107,17 +110,17 @@ module _ (share : OddLotRule) (m : Month) (keeps : KeepsMeaning share) (sound : 
 
   pub taken_amount : (c : Class) (d : ℕ) → taken_there m (chosen share m) c d ≡ amount m c d
   taken_amount c d =
-        elim (cases_lt 0 (length (holders m c d))) [
-          | inl l ↦ sym (sum-map (λ a. chosen share m a d c) (holders m c d)) ∙ ap sum (mapped c d l) ∙ (shares c d l).total
-          | inr z ↦ omega (arith, sum_empty (λ a. chosen share m a d c) (holders m c d) z, sum_empty (λ a. lots_there m a d c) (holders m c d) z)
-        ]
+      elim (cases_lt 0 (length (holders m c d))) [
+        | inl l ↦ sym (sum-map (λ a. chosen share m a d c) (holders m c d)) ∙ ap sum (mapped c d l) ∙ (shares c d l).total
+        | inr z ↦ omega (arith, sum_empty (λ a. chosen share m a d c) (holders m c d) z, sum_empty (λ a. lots_there m a d c) (holders m c d) z)
+      ]
 
   is_holder : (a d : ℕ) (c : Class) → 0 < lots_there m a d c → has a (holders m c d) ≡ true
   is_holder a d c l = has_kept (λ x. ltb 0 (lots_there m x d c)) m.accounts a (there_known m a d c l) (lt-ltb 0 (lots_there m a d c) l)
 
   pub chosen_le : (a d : ℕ) (c : Class) → chosen share m a d c ≤ amount m c d
   chosen_le a d c =
-        grind (arith, within a d c, taken_amount c d, is_holder a d c, has_term (λ x. chosen share m x d c) (holders m c d) a)
+      grind (arith, within a d c, taken_amount c d, is_holder a d c, has_term (λ x. chosen share m x d c) (holders m c d) a)
 
   -- where a class and day is full, all its lots are chosen
   pub full : (a d : ℕ) (c : Class) → (0 < lots_there m a d c → group_size m c d ≤ amount m c d) → lots_there m a d c ≤ chosen share m a d c
@@ -146,11 +149,14 @@ module _ (share : OddLotRule) (m : Month) (keeps : KeepsMeaning share) (sound : 
 
   day_amounts : (d : ℕ) → sum_by (λ a. taken_on (chosen share m) a d) m.accounts ≡ amount m Declared d + amount m Undeclared d + amount m Virtual d
   day_amounts d =
-      sum_add (λ a. chosen share m a d Declared + chosen share m a d Undeclared) (λ a. chosen share m a d Virtual) m.accounts
-      ∙ ap₂ ◌+◌
-      (sum_add (λ a. chosen share m a d Declared) (λ a. chosen share m a d Undeclared) m.accounts
-      ∙ ap₂ ◌+◌ (group_amount Declared d) (group_amount Undeclared d))
-      (group_amount Virtual d)
+      omega (
+        arith,
+        sum_add (λ a. chosen share m a d Declared + chosen share m a d Undeclared) (λ a. chosen share m a d Virtual) m.accounts,
+        sum_add (λ a. chosen share m a d Declared) (λ a. chosen share m a d Undeclared) m.accounts,
+        group_amount Declared d,
+        group_amount Undeclared d,
+        group_amount Virtual d,
+      )
 
   days_amounts : sum_by (λ d. amount m Declared d + amount m Undeclared d + amount m Virtual d) (purchase_days m) ≡ to_deliver m
   unfolding class_size

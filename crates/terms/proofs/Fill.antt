@@ -1,14 +1,14 @@
 -- Lots taken from days, the oldest first, until a number is reached; and the parts of a list by account. Assumes nothing.
-use Rattle.std.proofs.Common.{◌≡◌, ℕ, suc, ◌+◌, ◌-◌, ◌*◌, ◌/◌, ◌<◌, ◌≤◌, min, true, cond, eqb, ltb, List, [], ◌∷◌, map, length, get_or, sum_by, sum, refl, ap, ◌∙◌, subst, ap₂, inl, inr, add-mul, mul-le-mul_left, arith}
+use Rattle.std.proofs.Common.{◌≡◌, ℕ, suc, ◌+◌, ◌-◌, ◌*◌, ◌/◌, ◌<◌, ◌≤◌, min, true, cond, eqb, ltb, List, [], ◌∷◌, map, length, get_or, sum_by, sum, refl, ◌∙◌, ap₂, add-mul, mul-le-mul_left, arith}
 use Rattle.std.specs.List.{AllByRecursion}
 use Rattle.std.proofs.lemmas.Nat.{div_below}
 use Rattle.std.proofs.lemmas.List.Sums.{sum_by-cons, sum_by-le-sum_by}
-use Rattle.std.proofs.lemmas.Bool.{cases_lt, eqb-true, eqb-false, eq-eqb, ne_eqb, lt-ltb, le-ltb, false≢true, cond-true, cond-false, cond_both}
+use Rattle.std.proofs.lemmas.Bool.{eq-eqb, false≢true, cond-true}
 use Rattle.std.proofs.lemmas.Bool.Decides.{nat_tests}
 use Rattle.terms.specs.Month.{has}
 use Rattle.terms.specs.Rounds.{before, fill, part_of}
 use Rattle.terms.specs.Facts.{Rising}
-use Rattle.terms.proofs.Sums.{has_here, has_there, has_cases}
+use Rattle.terms.proofs.Sums.{has_here, has_there}
 use Rattle.terms.proofs.Rising.{sum_same_in, map_same_in}
 
 before_none : (t : ℕ → ℕ) (d : ℕ) (days : List ℕ) → ((x : ℕ) → has x days ≡ true → d < x) → before t days d ≡ 0

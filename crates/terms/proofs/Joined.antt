@@ -1,11 +1,10 @@
 -- A seller's pieces, one behind the other, make the pairs that one piece makes. Assumes nothing.
-use Rattle.std.proofs.Common.{◌≡◌, ℕ, ◌+◌, ◌-◌, ◌<◌, ◌≤◌, min, cond, ◌&&◌, eqb, List, [], ◌∷◌, ◌++◌, map, None, sum_by, sym, refl, ap, ◌∙◌, ap₂, inl, inr, arith}
+use Rattle.std.proofs.Common.{◌≡◌, ℕ, ◌+◌, ◌-◌, ◌≤◌, min, cond, eqb, List, [], ◌∷◌, ◌++◌, map, None, sum_by, refl, arith}
 use Rattle.std.specs.List.{flat_map}
 use Rattle.std.proofs.lemmas.List.Sums.{sum_by-cons}
-use Rattle.std.proofs.lemmas.Bool.{cases_lt, cases_Bool, eq-eqb, ne_eqb, and_from, cond-true, cond-false}
 use Rattle.std.proofs.lemmas.Bool.Decides.{nat_tests}
-use Rattle.terms.specs.Lines.{Part, part}
-use Rattle.terms.specs.Pairs.{Pair, pair, with_leg}
+use Rattle.terms.specs.Lines.{Part}
+use Rattle.terms.specs.Pairs.{Pair, with_leg}
 use Rattle.terms.specs.Rounds.{Piece, piece, bond_pieces, behind}
 use Rattle.terms.specs.declared.calls.BondLots.{BondLots}
 use Rattle.terms.proofs.Behind.{behind_zero}
@@ -63,22 +62,26 @@ meets (q ∷ qs) bs ps = meets qs (behind q.lots bs) (met q.seller q.lots bs ps)
 
 bonds_join : (s n : ℕ) (bonds : List BondLots) (qs : List Piece) (bs : List Part) (ps : List Pair) →
     meets (bond_pieces s n bonds ++ qs) bs ps ≡ meets (piece s None (min n (sum_by (λ (b : BondLots). b.lots) bonds)) ∷ qs) bs ps
-bonds_join s n [] qs bs ps = sym (ap₂ (meets qs) (behind_zero (min n 0) bs (omega arith)) (met_zero s (min n 0) bs ps (omega arith)))
+bonds_join s n [] qs bs ps = grind (arith, behind_zero (min n 0) bs, met_zero s (min n 0) bs ps)
 bonds_join s n (b ∷ bonds) qs bs ps =
     let x = min n b.lots in
     let y = min (n - b.lots) (sum_by (λ (c : BondLots). c.lots) bonds) in
-    let sum : min n b.lots + min (n - b.lots) (sum_by (λ (c : BondLots). c.lots) bonds) ≡ min n (sum_by (λ (c : BondLots). c.lots) (b ∷ bonds)) =
-    omega (arith, sum_by-cons (λ (c : BondLots). c.lots) b bonds) in
-    bonds_join s (n - b.lots) bonds qs (behind x bs) (met s x bs ps)
-    ∙ ap₂ (meets qs) (behind_join x y bs) (met_join s x y bs ps)
-    ∙ ap (λ z. meets qs (behind z bs) (met s z bs ps)) sum
+    grind (
+      arith,
+      sum_by-cons (λ (c : BondLots). c.lots) b bonds,
+      bonds_join s (n - b.lots) bonds qs (behind x bs) (met s x bs ps),
+      behind_join x y bs,
+      met_join s x y bs ps,
+    )
 
 -- each seller's bonds hold its lots
 pub lines_join : (f : ℕ → ℕ) (bonds : ℕ → List BondLots) → ((a : ℕ) → f a ≤ sum_by (λ (b : BondLots). b.lots) (bonds a)) →
     (xs : List ℕ) (bs : List Part) (ps : List Pair) → meets (flat_map (λ a. bond_pieces a (f a) (bonds a)) xs) bs ps ≡ meets (map (λ a. piece a None (f a)) xs) bs ps
 lines_join f bonds h [] bs ps = refl
 lines_join f bonds h (x ∷ xs) bs ps =
-    let within = h x in
-    bonds_join x (f x) (bonds x) (flat_map (λ a. bond_pieces a (f a) (bonds a)) xs) bs ps
-    ∙ ap (λ n. meets (piece x None n ∷ flat_map (λ a. bond_pieces a (f a) (bonds a)) xs) bs ps) (omega arith)
-    ∙ lines_join f bonds h xs (behind (f x) bs) (met x (f x) bs ps)
+    grind (
+      arith,
+      h x,
+      bonds_join x (f x) (bonds x) (flat_map (λ a. bond_pieces a (f a) (bonds a)) xs) bs ps,
+      lines_join f bonds h xs (behind (f x) bs) (met x (f x) bs ps),
+    )

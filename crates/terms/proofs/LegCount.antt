@@ -5,7 +5,7 @@ use Rattle.std.proofs.lemmas.List.Sums.{sum_by-cons, sum_by-append, count_by-le-
 use Rattle.std.proofs.lemmas.Bool.{cases_lt}
 use Rattle.std.proofs.lemmas.Bool.Decides.{nat_tests}
 use Rattle.terms.specs.Lots.{lots_in}
-use Rattle.terms.specs.Month.{Month, final, effective_sale, declared_bonds}
+use Rattle.terms.specs.Month.{Month, effective_sale, declared_bonds}
 use Rattle.terms.specs.Selection.{Selection, taken_from}
 use Rattle.terms.specs.Lines.{Part, part}
 use Rattle.terms.specs.Pairs.{unsold, unbought}
@@ -13,7 +13,7 @@ use Rattle.terms.specs.Rounds.{Piece, piece, bond_pieces, delivery_pieces, failu
 use Rattle.terms.specs.Facts.{Sound, SoundSides}
 use Rattle.terms.specs.declared.calls.BondLots.{BondLots}
 use Rattle.terms.proofs.Lines.{count_sides}
-use Rattle.terms.proofs.Behind.{some, some_cases, some_more, full_pieces, full_parts, legs_none, legs_few}
+use Rattle.terms.proofs.Behind.{some, some_more, full_pieces, full_parts, legs_none, legs_few}
 use Rattle.terms.proofs.Deliveries.{map_sum}
 
 -- a seller without lots has no piece with lots, and else at most one for each bond

@@ -1,14 +1,14 @@
 -- Two sides laid along a line: each overlap of a seller and a buyer is a pair, and such a list is a pairing. Assumes nothing.
-use Rattle.std.proofs.Common.{◌≡◌, ℕ, zero, suc, ◌+◌, ◌-◌, ◌<◌, ◌≤◌, min, true, cond, eqb, ltb, ◌⊎◌, List, [], ◌∷◌, length, sum_by, count_by, sym, refl, ap, ◌∙◌, subst, inl, inr, arith}
+use Rattle.std.proofs.Common.{◌≡◌, ℕ, zero, suc, ◌+◌, ◌-◌, ◌<◌, ◌≤◌, min, true, cond, eqb, ltb, ◌⊎◌, List, [], ◌∷◌, length, sum_by, count_by, sym, refl, ◌∙◌, inl, inr, arith}
 use Rattle.std.specs.List.{AllByRecursion}
 use Rattle.std.proofs.lemmas.List.Sums.{sum_by-cons}
-use Rattle.std.proofs.lemmas.Bool.{cases_lt, cases_Bool, eq-eqb, ne_eqb, ltb-true, ltb-false, le-ltb, false≢true, cond-true, cond-false, cond_both}
+use Rattle.std.proofs.lemmas.Bool.{cases_lt, false≢true}
 use Rattle.std.proofs.lemmas.Bool.Decides.{nat_tests}
 use Rattle.terms.specs.Month.{has}
 use Rattle.terms.specs.Facts.{Rising}
 use Rattle.terms.specs.Lines.{Part, part, of_account, lots_on_line, line, past, overlaps, laid}
 use Rattle.terms.specs.Pairs.{Pair, pair, sold_in, bought_in, Pairing}
-use Rattle.terms.proofs.Sums.{has_here, has_there, has_cases, sum_empty}
+use Rattle.terms.proofs.Sums.{sum_empty}
 use Rattle.terms.proofs.Rising.{sum_at}
 use Rattle.terms.proofs.Behind.{no_lots}
 
@@ -42,11 +42,17 @@ overlaps_sold zero (s ∷ ss) bs p q e l a = absurd (omega arith)
 overlaps_sold (suc k) [] bs p q e l a = refl
 overlaps_sold (suc k) (s ∷ ss) [] p q e l a = absurd (omega (arith, sum_by-cons (λ (x : Part). x.lots) s ss, p.0))
 overlaps_sold (suc k) (s ∷ ss) (b ∷ bs) p q e l a =
-    sum_by-cons (λ (x : Pair). cond (eqb x.seller a) x.lots 0) (pair s.account b.account (min s.lots b.lots)) (overlaps k (past s b.lots ss) (past b s.lots bs))
-    ∙ ap (λ n. cond (eqb s.account a) (min s.lots b.lots) 0 + n)
-    (overlaps_sold k (past s b.lots ss) (past b s.lots bs) (past_positive s b.lots ss p.1) (past_positive b s.lots bs q.1)
-    (omega (arith, past_lots s b.lots ss, past_lots b s.lots bs)) (omega (arith, past_length s b ss bs)) a)
-    ∙ past_of a s b.lots (min s.lots b.lots) ss (omega arith)
+    grind (
+      arith,
+      sum_by-cons (λ (x : Pair). cond (eqb x.seller a) x.lots 0) (pair s.account b.account (min s.lots b.lots)) (overlaps k (past s b.lots ss) (past b s.lots bs)),
+      past_positive s b.lots ss p.1,
+      past_positive b s.lots bs q.1,
+      past_lots s b.lots ss,
+      past_lots b s.lots bs,
+      past_length s b ss bs,
+      past_of a s b.lots (min s.lots b.lots) ss,
+      overlaps_sold k (past s b.lots ss) (past b s.lots bs),
+    )
 
 overlaps_bought : (k : ℕ) (ss bs : List Part) → Positive ss → Positive bs → lots_on_line ss ≡ lots_on_line bs → length ss + length bs ≤ k →
     (a : ℕ) → bought_in (overlaps k ss bs) a ≡ of_account a bs
@@ -55,11 +61,17 @@ overlaps_bought zero ss (b ∷ bs) p q e l a = absurd (omega arith)
 overlaps_bought (suc k) [] bs p q e l a = sym (no_lots bs a (sym e))
 overlaps_bought (suc k) (s ∷ ss) [] p q e l a = refl
 overlaps_bought (suc k) (s ∷ ss) (b ∷ bs) p q e l a =
-    sum_by-cons (λ (x : Pair). cond (eqb x.buyer a) x.lots 0) (pair s.account b.account (min s.lots b.lots)) (overlaps k (past s b.lots ss) (past b s.lots bs))
-    ∙ ap (λ n. cond (eqb b.account a) (min s.lots b.lots) 0 + n)
-    (overlaps_bought k (past s b.lots ss) (past b s.lots bs) (past_positive s b.lots ss p.1) (past_positive b s.lots bs q.1)
-    (omega (arith, past_lots s b.lots ss, past_lots b s.lots bs)) (omega (arith, past_length s b ss bs)) a)
-    ∙ past_of a b s.lots (min s.lots b.lots) bs refl
+    grind (
+      arith,
+      sum_by-cons (λ (x : Pair). cond (eqb x.buyer a) x.lots 0) (pair s.account b.account (min s.lots b.lots)) (overlaps k (past s b.lots ss) (past b s.lots bs)),
+      past_positive s b.lots ss p.1,
+      past_positive b s.lots bs q.1,
+      past_lots s b.lots ss,
+      past_lots b s.lots bs,
+      past_length s b ss bs,
+      past_of a b s.lots (min s.lots b.lots) bs,
+      overlaps_bought k (past s b.lots ss) (past b s.lots bs),
+    )
 
 -- the pairs are fewer than the parts
 overlaps_none : (k : ℕ) (ss bs : List Part) → length ss + length bs ≤ 0 → length (overlaps k ss bs) ≡ 0

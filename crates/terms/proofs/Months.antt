@@ -1,6 +1,5 @@
 -- One plain month is left by a list of calls. Assumes nothing.
-use Rattle.std.proofs.Common.{◌≡◌, ℕ, Bool, List, refl, ap, ◌∙◌, subst, inl, inr, arith}
-use Rattle.std.proofs.lemmas.Bool.{cases_order, both_ways}
+use Rattle.std.proofs.Common.{◌≡◌, ℕ, Bool, List, refl, ap, ◌∙◌, subst, arith}
 use Rattle.terms.specs.Month.{Month, nothing, to_buy, to_sell}
 use Rattle.terms.specs.Selection.{Selection, FiveRules}
 use Rattle.terms.specs.Calendar.{NextBusinessDay}

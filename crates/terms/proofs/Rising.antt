@@ -1,7 +1,7 @@
 -- Numbers in rising order, and sums over them. Assumes nothing.
-use Rattle.std.proofs.Common.{◌≡◌, ℕ, ◌+◌, ◌<◌, ◌≤◌, Bool, true, cond, eqb, ltb, ◌⊎◌, List, [], ◌∷◌, map, length, sum_by, filter, sym, refl, ◌∙◌, subst, ap₂, inl, inr, arith, ap, false}
+use Rattle.std.proofs.Common.{◌≡◌, ℕ, ◌+◌, ◌≤◌, Bool, true, cond, eqb, ◌⊎◌, List, [], ◌∷◌, map, length, sum_by, filter, sym, refl, ◌∙◌, subst, ap₂, inl, inr, arith, ap, false}
 use Rattle.std.proofs.lemmas.List.Sums.{sum_by-cons, length-filter, count_by-le-length}
-use Rattle.std.proofs.lemmas.Bool.{cases_Bool, eqb-false, eq-eqb, ne_eqb, ltb-true, ltb-false, false≢true, cond-true, cond-false, cond_both}
+use Rattle.std.proofs.lemmas.Bool.{cases_Bool, false≢true}
 use Rattle.std.proofs.lemmas.Bool.Decides.{nat_tests}
 use Rattle.terms.specs.Lots.{Dated, Position, lots_in, lots_of_day}
 use Rattle.terms.specs.Month.{has, with_day, with_days, days_among}

@@ -1,8 +1,8 @@
 -- Where a number of lots is reached: the lots of the days before a day, the days from a day on, and what full and empty groups give.
 -- Assumes nothing.
-use Rattle.std.proofs.Common.{◌≡◌, ℕ, ◌+◌, ◌-◌, ◌<◌, ◌≤◌, Bool, true, false, cond, ltb, leb, List, [], ◌∷◌, sum_by, filter, sym, refl, ap, ◌∙◌, ap₂, inl, inr, arith}
+use Rattle.std.proofs.Common.{◌≡◌, ℕ, ◌+◌, ◌-◌, ◌<◌, ◌≤◌, Bool, true, false, cond, ltb, leb, List, [], ◌∷◌, sum_by, filter, refl, inl, inr, arith}
 use Rattle.std.proofs.lemmas.List.Sums.{sum_by-cons}
-use Rattle.std.proofs.lemmas.Bool.{cases_lt, lt-ltb, le-ltb, le-leb, lt-leb, false≢true, cond-true, cond-false}
+use Rattle.std.proofs.lemmas.Bool.{false≢true, cond-true, cond-false}
 use Rattle.std.proofs.lemmas.Bool.Decides.{nat_tests}
 use Rattle.terms.specs.Month.{Month, has, held, covered, final, lots_there, holders, purchase_days}
 use Rattle.terms.specs.OddLots.{OddLotRule, KeepsMeaning}
@@ -10,7 +10,7 @@ use Rattle.terms.specs.Rounds.{before, group_size, class_size, amount, chosen}
 use Rattle.terms.specs.Facts.{Rising, Sound}
 use Rattle.terms.specs.declared.rows.Class.{Class}
 use Rattle.terms.specs.declared.rows.Class.TheVariants.{Undeclared, Virtual}
-use Rattle.terms.proofs.Sums.{has_here, has_there, has_cases, sum_zero, sum_same}
+use Rattle.terms.proofs.Sums.{has_here, has_there, has_cases}
 use Rattle.terms.proofs.Rising.{sum_same_in, sum_no_term}
 use Rattle.terms.proofs.Exists.{within, chosen_le, full}
 

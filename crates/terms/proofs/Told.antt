@@ -1,11 +1,11 @@
 -- The rows of a selection tell that selection. Assumes nothing.
-use Rattle.std.proofs.Common.{◌≡◌, ℕ, ◌+◌, ◌-◌, ◌<◌, ◌≤◌, min, Bool, true, false, cond, ◌&&◌, eqb, ◌⊎◌, List, [], ◌∷◌, ◌++◌, sum_by, sym, refl, ap, ◌∙◌, subst, inl, inr, append-nil, arith}
+use Rattle.std.proofs.Common.{◌≡◌, ℕ, ◌+◌, ◌-◌, ◌<◌, ◌≤◌, min, Bool, true, cond, ◌&&◌, eqb, ◌⊎◌, List, [], ◌∷◌, ◌++◌, sum_by, sym, refl, ◌∙◌, subst, inl, inr, append-nil, arith}
 use mathlib.Core.Path.{fun_ext}
 use Rattle.std.specs.List.{flat_map}
-use Rattle.std.proofs.lemmas.List.Sums.{sum_by-cons, sum_by-append}
-use Rattle.std.proofs.lemmas.Bool.{cases_lt, cases_Bool, cases_eq, eqb-true, eqb-false, eq-eqb, ne_eqb, and_from, and_left, and_right, false≢true, cond-true, cond-false, cond_both}
+use Rattle.std.proofs.lemmas.List.Sums.{sum_by-append}
+use Rattle.std.proofs.lemmas.Bool.{cases_lt, cond_both}
 use Rattle.std.proofs.lemmas.Bool.Decides.{nat_tests}
-use Rattle.terms.specs.Month.{Month, has, held, covered, final, lots_there, purchase_days}
+use Rattle.terms.specs.Month.{Month, has, final, lots_there, purchase_days}
 use Rattle.terms.specs.OddLots.{OddLotRule, KeepsMeaning}
 use Rattle.terms.specs.Selection.{Selection, FiveRules, letter, told_by, told, taken_from}
 use Rattle.terms.specs.Pairs.{unbought}
@@ -15,9 +15,8 @@ use Rattle.terms.specs.Facts.{Rising, Sound, RoundSelects}
 use Rattle.terms.specs.declared.rows.Class.{Class}
 use Rattle.terms.specs.declared.rows.Class.TheVariants.{Declared, Undeclared, Virtual}
 use Rattle.terms.specs.declared.rows.Row.{Row}
-use Rattle.terms.specs.declared.rows.Row.TheVariants.{ClassLots, Leg}
-use Rattle.terms.proofs.Sums.{has_cases, sum_zero, sum_listed}
-use Rattle.terms.proofs.Rising.{sum_same_in, days_rising, sum_no_term, sum_one_term}
+use Rattle.terms.proofs.Sums.{sum_listed}
+use Rattle.terms.proofs.Rising.{days_rising, sum_no_term, sum_one_term}
 use Rattle.terms.proofs.Alone.{there_known, there_day, letter_same, class_cases}
 use Rattle.terms.proofs.Exists.{within, chosen_keeps}
 
@@ -73,15 +72,15 @@ module _ (sel : Selection) (accounts days : List ℕ) (ra : Rising accounts) (rd
   -- rows of its own class tell its lots
   class_own : (c : Class) → (0 < sel a d c → (has a accounts ≡ true) × (has d days ≡ true)) → told (class_rows sel c accounts days) a d c ≡ sel a d c
   class_own c h =
-        elim (cases_lt 0 (sel a d c)) [
-          | inl l ↦
-              class_sum c c
-              ∙ sum_one_term (λ y. told (group_rows sel c accounts y) a d c) d days rd (h l).1 (other_day c)
-              ∙ group_sum c d c
-              ∙ sum_one_term (λ x. told (lots_row c x d (sel x d c)) a d c) a accounts ra (h l).0 (λ x. row_other_account c x d)
-              ∙ own_row c
-          | inr z ↦ class_none c c (λ x y. grind (arith, nat_tests, told_row c x y (sel x y c) a d c)) ∙ omega arith
-        ]
+      elim (cases_lt 0 (sel a d c)) [
+        | inl l ↦
+            class_sum c c
+            ∙ sum_one_term (λ y. told (group_rows sel c accounts y) a d c) d days rd (h l).1 (other_day c)
+            ∙ group_sum c d c
+            ∙ sum_one_term (λ x. told (lots_row c x d (sel x d c)) a d c) a accounts ra (h l).0 (λ x. row_other_account c x d)
+            ∙ own_row c
+        | inr z ↦ class_none c c (λ x y. grind (arith, nat_tests, told_row c x y (sel x y c) a d c)) ∙ omega arith
+      ]
 
   -- the rows of two classes tell the lots of both
   two_classes : (o c : Class) → (0 < sel a d c → (has a accounts ≡ true) × (has d days ≡ true)) →

@@ -1,6 +1,6 @@
 -- The worked month: both draws of its run. Assumes nothing.
-use Rattle.std.proofs.Common.{◌≡◌, ℕ, zero, suc, ◌<◌, Bool, true, false, not, ◌&&◌, ◌||◌, eqb, ◌⊎◌, get_or, take, sym, refl, ap, subst, inl, inr, arith, lit<, rules, ◌∙◌}
-use Rattle.std.proofs.lemmas.Bool.{and_parts, or_cases, eqb-true, cases_eq, both_ways, not-true, agree_below_at}
+use Rattle.std.proofs.Common.{◌≡◌, ℕ, ◌<◌, Bool, true, false, ◌||◌, eqb, ◌⊎◌, get_or, take, sym, refl, ap, subst, inl, inr, arith, lit<, rules, ◌∙◌}
+use Rattle.std.proofs.lemmas.Bool.{or_cases, eqb-true, agree_below_at}
 use Rattle.terms.specs.Calendar.{weekdays, NextBusinessDay}
 use Rattle.terms.specs.OddLots.{running}
 use Rattle.terms.specs.Selection.{FiveRules, told}
