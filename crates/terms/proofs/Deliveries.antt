@@ -269,14 +269,8 @@ round_paired m sel sound sides within complete = record {
       (sym complete));
   failures = subst (Pairing m.accounts (unsold m) (unbought m sel)) (sym second)
       (failure_pairing (unsold m) (unbought m sel) m.accounts sound.rising
-      (λ a n. let k = sides.known a n in (
-        grind (arith, k.0),
-        grind (arith, k.1),
-      ))
-      (λ a. elim (sides.one_sided a) [
-        | inl e ↦ inl (grind arith)
-        | inr e ↦ inr (grind arith)
-      ])
+      (λ a n. let k = sides.known a n in (grind (arith, k.0), grind (arith, k.1)))
+      (λ a. elim (sides.one_sided a) [ inl e ↦ inl (grind arith) | inr e ↦ inr (grind arith) ])
       (left_over (final m) (λ a. (m.positions a).short) (effective_sale m) (λ a. lots_in (m.positions a).long) (taken_from m sel) m.accounts
       (λ a. omega arith) within sound.balanced (sym complete)));
 }

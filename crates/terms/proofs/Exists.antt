@@ -1,5 +1,5 @@
 -- A selection that keeps the five rules exists over every sound month. Assumes nothing.
-use Rattle.std.proofs.Common.{◌≡◌, ℕ, ◌+◌, ◌*◌, ◌/◌, ◌<◌, ◌≤◌, true, cond, eqb, ltb, List, [], ◌∷◌, map, length, get_or, sum_by, sum, sym, ap, ◌∙◌, subst, inl, inr, mul-div_cancel, arith}
+use Rattle.std.proofs.Common.{◌≡◌, ℕ, ◌+◌, ◌*◌, ◌/◌, ◌<◌, ◌≤◌, true, cond, eqb, ltb, List, [], ◌∷◌, map, length, get_or, sum_by, sum, sym, ap, ◌∙◌, inl, inr, mul-div_cancel, arith}
 use lib.ListN.{length-map}
 use Rattle.std.specs.List.{AllByRecursion}
 use Rattle.std.proofs.ByRecursion.{All-map}
@@ -74,7 +74,7 @@ enough m s =
 module _ (share : OddLotRule) (m : Month) (keeps : KeepsMeaning share) (sound : Sound m) where
   shareable : (c : Class) (d : ℕ) → 0 < length (holders m c d) → Shareable (asked m c d) (amount m c d)
   shareable c d l = record {
-    some = subst (λ n. 0 < n) (sym (length-map (holders m c d) (λ a. lots_there m a d c))) l;
+    some = omega (arith, length-map (holders m c d) (λ a. lots_there m a d c));
     few = omega (arith, length-map (holders m c d) (λ a. lots_there m a d c), kept_length (λ a. ltb 0 (lots_there m a d c)) m.accounts, sound.few);
     sizes = All-map (λ q. (1 ≤ q) × (q ≤ 100000)) (λ a. lots_there m a d c) (holders m c d)
         (all_from_has (λ a. (1 ≤ lots_there m a d c) × (lots_there m a d c ≤ 100000)) (holders m c d)
@@ -99,7 +99,7 @@ module _ (share : OddLotRule) (m : Month) (keeps : KeepsMeaning share) (sound : 
       let s = shareable c d some in
       omega (
         arith,
-        (shares c d some).at_most i (subst (λ n. i < n) (sym (length-map (holders m c d) (λ x. lots_there m x d c))) l),
+        (shares c d some).at_most i (omega (arith, length-map (holders m c d) (λ x. lots_there m x d c))),
         ceil_le (get_or (asked m c d) i 0) (amount m c d) (sum (asked m c d)) (sum_positive (asked m c d) s.sizes s.some) s.enough,
       ))
       a
@@ -136,7 +136,7 @@ module _ (share : OddLotRule) (m : Month) (keeps : KeepsMeaning share) (sound : 
             part_ge (λ x. lots_there m x d c) (holders m c d) (share (asked m c d) (amount m c d)) (as_long c d some)
             (λ k b.
             let q = get_or (asked m c d) k 0 in
-            let g = (shares c d some).at_least k (subst (λ n. k < n) (sym (length-map (holders m c d) (λ x. lots_there m x d c))) b) in
+            let g = (shares c d some).at_least k (omega (arith, length-map (holders m c d) (λ x. lots_there m x d c))) in
             let f : (q * amount m c d) / sum (asked m c d) ≡ q = ap (λ n. (q * n) / sum (asked m c d)) e ∙ mul-div_cancel q t in
             omega (arith, g, f)) a i
       ]

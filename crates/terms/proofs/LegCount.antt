@@ -1,8 +1,7 @@
 -- A round has few legs. Assumes nothing.
-use Rattle.std.proofs.Common.{◌≡◌, ℕ, ◌+◌, ◌-◌, ◌*◌, ◌<◌, ◌≤◌, min, ltb, List, [], ◌∷◌, length, Some, None, count_by, refl, inl, inr, arith, length-append}
+use Rattle.std.proofs.Common.{◌≡◌, ℕ, ◌+◌, ◌-◌, ◌*◌, ◌<◌, ◌≤◌, min, ltb, List, [], ◌∷◌, length, Some, None, count_by, refl, arith, length-append}
 use Rattle.std.specs.List.{flat_map}
 use Rattle.std.proofs.lemmas.List.Sums.{sum_by-cons, sum_by-append, count_by-le-length, sum_by-le-sum_by}
-use Rattle.std.proofs.lemmas.Bool.{cases_lt}
 use Rattle.std.proofs.lemmas.Bool.Decides.{nat_tests}
 use Rattle.terms.specs.Lots.{lots_in}
 use Rattle.terms.specs.Month.{Month, effective_sale, declared_bonds}
@@ -62,22 +61,19 @@ pub few_legs_of : (m : Month) (sel : Selection) → Sound m → SoundSides m →
 few_legs_of m sel sound apart within =
     let s = count_by (λ a. ltb 0 (m.positions a).short) m.accounts in
     let b = count_by (λ a. ltb 0 (lots_in (m.positions a).long)) m.accounts in
-    let sides = count_sides (λ a. (m.positions a).short) (λ a. lots_in (m.positions a).long) m.accounts apart.one_sided in
-    let all = count_by-le-length (λ a. ltb 0 ((m.positions a).short + lots_in (m.positions a).long)) m.accounts in
-    let few = sound.few in
-    let len = length-append (delivery_legs m sel) (failure_legs m sel) in
-    elim (cases_lt 0 (count_by (λ a. ltb 0 (lots_in (m.positions a).long)) m.accounts)) [
-      | inl l ↦ omega (
-        arith,
-        legs_within (delivery_pieces m) (buyers (taken_from m sel) m.accounts) (4 * s) b sold_full bought_full l,
-        legs_within (failure_pieces m) (buyers (unbought m sel) m.accounts) s b unsold_full unbought_full l,
-      )
-      | inr z ↦ omega (
-        arith,
-        legs_none (delivery_pieces m) (buyers (taken_from m sel) m.accounts) (omega (arith, bought_full)),
-        legs_none (failure_pieces m) (buyers (unbought m sel) m.accounts) (omega (arith, unbought_full)),
-      )
-    ]
+    grind (
+      arith,
+      sound.few,
+      count_sides (λ a. (m.positions a).short) (λ a. lots_in (m.positions a).long) m.accounts apart.one_sided,
+      count_by-le-length (λ a. ltb 0 ((m.positions a).short + lots_in (m.positions a).long)) m.accounts,
+      length-append (delivery_legs m sel) (failure_legs m sel),
+      legs_within (delivery_pieces m) (buyers (taken_from m sel) m.accounts) (4 * s) b sold_full bought_full,
+      legs_within (failure_pieces m) (buyers (unbought m sel) m.accounts) s b unsold_full unbought_full,
+      legs_none (delivery_pieces m) (buyers (taken_from m sel) m.accounts),
+      legs_none (failure_pieces m) (buyers (unbought m sel) m.accounts),
+      bought_full,
+      unbought_full,
+    )
   where
     sold_full : full_pieces (delivery_pieces m) ≤ 4 * count_by (λ a. ltb 0 (m.positions a).short) m.accounts
     sold_full = pieces_full (effective_sale m) (λ a. (m.positions a).short) (λ a. declared_bonds (m.declarations a)) (λ a. omega arith) apart.four m.accounts

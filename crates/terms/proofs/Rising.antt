@@ -105,8 +105,12 @@ sum_at f xs a r off =
 pub lots_by_day : (ls : List Dated) (days : List ℕ) → Rising days → Within ls days → sum_by (λ d. lots_of_day d ls) days ≡ lots_in ls
 lots_by_day [] days r w = sum_zero days
 lots_by_day (l ∷ ls) days r w =
-    sum_same (λ d. lots_of_day d (l ∷ ls)) (λ d. cond (eqb l.day d) l.lots 0 + lots_of_day d ls) days
-    (λ d. sum_by-cons (λ (k : Dated). cond (eqb k.day d) k.lots 0) l ls)
-    ∙ sum_add (λ d. cond (eqb l.day d) l.lots 0) (λ d. lots_of_day d ls) days
-    ∙ ap₂ ◌+◌ (sum_one l.day l.lots days r w.0) (lots_by_day ls days r w.1)
-    ∙ sym (sum_by-cons (λ (k : Dated). k.lots) l ls)
+    omega (
+      arith,
+      sum_same (λ d. lots_of_day d (l ∷ ls)) (λ d. cond (eqb l.day d) l.lots 0 + lots_of_day d ls) days
+          (λ d. sum_by-cons (λ (k : Dated). cond (eqb k.day d) k.lots 0) l ls),
+      sum_add (λ d. cond (eqb l.day d) l.lots 0) (λ d. lots_of_day d ls) days,
+      sum_one l.day l.lots days r w.0,
+      lots_by_day ls days r w.1,
+      sum_by-cons (λ (k : Dated). k.lots) l ls,
+    )
