@@ -23,7 +23,7 @@ use Rattle.terms.proofs.Sums.{sum_empty, sum_add, sum_same}
 use Rattle.terms.proofs.Lines.{count_sides}
 use Rattle.terms.proofs.Legs.{with_leg_sold, with_leg_bought}
 use Rattle.terms.proofs.Behind.{sells, buys, piece_lots, some, full_pieces, full_parts, legs_sold, legs_bought, legs_none, legs_few}
-use Rattle.terms.proofs.Joined.{with_lots, met, meets, lines_join}
+use Rattle.terms.proofs.Joined.{with_lots, met, meets, lines_join, bonded, unbonded}
 use Rattle.terms.proofs.Rising.{sum_at}
 
 -- the pairs of legs, whatever their bonds
@@ -175,7 +175,7 @@ bonds_kind : (s n : ℕ) (bonds : List BondLots) → AllByRecursion (λ (p : Pie
 bonds_kind s n [] = tt
 bonds_kind s n (b ∷ bonds) = (refl, bonds_kind s (n - b.lots) bonds)
 
-failure_kind : (f : ℕ → ℕ) (xs : List ℕ) → AllByRecursion (λ (p : Piece). bond_kind p.bond ≡ 2) (map (λ a. piece a None (f a)) xs)
+failure_kind : (f : ℕ → ℕ) (xs : List ℕ) → AllByRecursion (λ (p : Piece). bond_kind p.bond ≡ 2) (unbonded f xs)
 failure_kind f [] = tt
 failure_kind f (x ∷ xs) = (refl, failure_kind f xs)
 
@@ -185,15 +185,15 @@ map_sum w q xs = fold-map (λ a x. a + w x) q 0 xs
 
 -- pairs that sell and buy what the legs do, and are no more than the legs, are a pairing
 legs_pairing : (f g : ℕ → ℕ) (xs : List ℕ) → Rising xs → ((a : ℕ) → has a xs ≡ false → (f a ≡ 0) × (g a ≡ 0)) → ((a : ℕ) → (f a ≡ 0) ⊎ (g a ≡ 0)) →
-    sum_by f xs ≡ sum_by g xs → (ps : List Pair) → ((a : ℕ) → sold_in ps a ≡ sum_by (sells a) (legs (map (λ x. piece x None (f x)) xs) (buyers g xs))) →
-    ((a : ℕ) → bought_in ps a ≡ sum_by (buys a) (legs (map (λ x. piece x None (f x)) xs) (buyers g xs))) →
-    length ps ≤ length (legs (map (λ x. piece x None (f x)) xs) (buyers g xs)) → Pairing xs f g ps
+    sum_by f xs ≡ sum_by g xs → (ps : List Pair) → ((a : ℕ) → sold_in ps a ≡ sum_by (sells a) (legs (unbonded f xs) (buyers g xs))) →
+    ((a : ℕ) → bought_in ps a ≡ sum_by (buys a) (legs (unbonded f xs) (buyers g xs))) →
+    length ps ≤ length (legs (unbonded f xs) (buyers g xs)) → Pairing xs f g ps
 legs_pairing f g xs r off sides e ps sold bought short = record {
   sold = λ a. sold a ∙ legs_sold qs bs a (omega (arith, even)) ∙ map_sum (λ (p : Piece). cond (eqb p.seller a) p.lots 0) (λ x. piece x None (f x)) xs
       ∙ sum_at f xs a r (λ n. (off a n).0);
   bought = λ a. bought a ∙ legs_bought qs bs a even ∙ map_sum (λ (p : Part). cond (eqb p.account a) p.lots 0) (λ x. part x (g x)) xs
       ∙ sum_at g xs a r (λ n. (off a n).1);
-  few = λ l. elim (cases_lt 0 (full_pieces (map (λ x. piece x None (f x)) xs) + full_parts (buyers g xs))) [
+  few = λ l. elim (cases_lt 0 (full_pieces (unbonded f xs) + full_parts (buyers g xs))) [
     | inl p ↦ omega (
       arith,
       legs_few qs bs p,
@@ -206,40 +206,40 @@ legs_pairing f g xs r off sides e ps sold bought short = record {
 }
   where
     qs : List Piece
-    qs = map (λ x. piece x None (f x)) xs
+    qs = unbonded f xs
 
     bs : List Part
     bs = buyers g xs
 
-    even : piece_lots (map (λ x. piece x None (f x)) xs) ≡ lots_on_line (buyers g xs)
+    even : piece_lots (unbonded f xs) ≡ lots_on_line (buyers g xs)
     even = map_sum (λ (p : Piece). p.lots) (λ x. piece x None (f x)) xs ∙ e ∙ sym (map_sum (λ (p : Part). p.lots) (λ x. part x (g x)) xs)
 
 -- the pairs of legs from bonds are those of legs without
 bonds_pairing : (f g : ℕ → ℕ) (bonds : ℕ → List BondLots) (xs : List ℕ) → ((a : ℕ) → f a ≤ sum_by (λ (b : BondLots). b.lots) (bonds a)) →
     Rising xs → ((a : ℕ) → has a xs ≡ false → (f a ≡ 0) × (g a ≡ 0)) → ((a : ℕ) → (f a ≡ 0) ⊎ (g a ≡ 0)) →
-    sum_by f xs ≡ sum_by g xs → Pairing xs f g (fold with_row [] (legs (flat_map (λ a. bond_pieces a (f a) (bonds a)) xs) (buyers g xs)))
+    sum_by f xs ≡ sum_by g xs → Pairing xs f g (fold with_row [] (legs (bonded f bonds xs) (buyers g xs)))
 bonds_pairing f g bonds xs h r off sides e =
     subst (Pairing xs f g) (sym same_pairs)
-    (legs_pairing f g xs r off sides e (fold with_any [] (legs (map (λ x. piece x None (f x)) xs) (buyers g xs)))
-    (λ a. any_sold [] (legs (map (λ x. piece x None (f x)) xs) (buyers g xs)) a ∙ omega arith)
-    (λ a. any_bought [] (legs (map (λ x. piece x None (f x)) xs) (buyers g xs)) a ∙ omega arith)
-    (omega (arith, any_length [] (legs (map (λ x. piece x None (f x)) xs) (buyers g xs)))))
+    (legs_pairing f g xs r off sides e (fold with_any [] (legs (unbonded f xs) (buyers g xs)))
+    (λ a. any_sold [] (legs (unbonded f xs) (buyers g xs)) a ∙ omega arith)
+    (λ a. any_bought [] (legs (unbonded f xs) (buyers g xs)) a ∙ omega arith)
+    (omega (arith, any_length [] (legs (unbonded f xs) (buyers g xs)))))
   where
-    same_pairs : fold with_row [] (legs (flat_map (λ a. bond_pieces a (f a) (bonds a)) xs) (buyers g xs))
-        ≡ fold with_any [] (legs (map (λ x. piece x None (f x)) xs) (buyers g xs))
+    same_pairs : fold with_row [] (legs (bonded f bonds xs) (buyers g xs))
+        ≡ fold with_any [] (legs (unbonded f xs) (buyers g xs))
     same_pairs =
-        with_bond [] (legs (flat_map (λ a. bond_pieces a (f a) (bonds a)) xs) (buyers g xs))
-        (legs_kind 1 (flat_map (λ a. bond_pieces a (f a) (bonds a)) xs) (buyers g xs)
+        with_bond [] (legs (bonded f bonds xs) (buyers g xs))
+        (legs_kind 1 (bonded f bonds xs) (buyers g xs)
         (all_listed (λ (p : Piece). bond_kind p.bond ≡ 1) (λ a. bond_pieces a (f a) (bonds a)) xs (λ a. bonds_kind a (f a) (bonds a))))
-        ∙ line_met (flat_map (λ a. bond_pieces a (f a) (bonds a)) xs) (buyers g xs) []
+        ∙ line_met (bonded f bonds xs) (buyers g xs) []
         ∙ lines_join f bonds h xs (buyers g xs) []
-        ∙ sym (line_met (map (λ x. piece x None (f x)) xs) (buyers g xs) [])
+        ∙ sym (line_met (unbonded f xs) (buyers g xs) [])
 
 failure_pairing : (f g : ℕ → ℕ) (xs : List ℕ) → Rising xs → ((a : ℕ) → has a xs ≡ false → (f a ≡ 0) × (g a ≡ 0)) → ((a : ℕ) → (f a ≡ 0) ⊎ (g a ≡ 0)) →
-    sum_by f xs ≡ sum_by g xs → Pairing xs f g (failure_pairs (legs (map (λ x. piece x None (f x)) xs) (buyers g xs)))
+    sum_by f xs ≡ sum_by g xs → Pairing xs f g (failure_pairs (legs (unbonded f xs) (buyers g xs)))
 failure_pairing f g xs r off sides e =
-    let rows = legs (map (λ x. piece x None (f x)) xs) (buyers g xs) in
-    let k = legs_kind 2 (map (λ x. piece x None (f x)) xs) (buyers g xs) (failure_kind f xs) in
+    let rows = legs (unbonded f xs) (buyers g xs) in
+    let k = legs_kind 2 (unbonded f xs) (buyers g xs) (failure_kind f xs) in
     legs_pairing f g xs r off sides e (failure_pairs rows) (λ a. failed_sold rows a k) (λ a. failed_bought rows a k) (failed_length rows)
 
 -- what is left of two equal sums once equal sums are taken

@@ -60,6 +60,13 @@ abbrev pub meets : List Piece → List Part → List Pair → List Pair
 meets [] bs ps = ps
 meets (q ∷ qs) bs ps = meets qs (behind q.lots bs) (met q.seller q.lots bs ps)
 
+-- sellers' lots, with their bonds and without
+abbrev pub bonded : (ℕ → ℕ) → (ℕ → List BondLots) → List ℕ → List Piece
+bonded f bonds xs = flat_map (λ a. bond_pieces a (f a) (bonds a)) xs
+
+abbrev pub unbonded : (ℕ → ℕ) → List ℕ → List Piece
+unbonded f xs = map (λ a. piece a None (f a)) xs
+
 bonds_join : (s n : ℕ) (bonds : List BondLots) (qs : List Piece) (bs : List Part) (ps : List Pair) →
     meets (bond_pieces s n bonds ++ qs) bs ps ≡ meets (piece s None (min n (sum_by (λ (b : BondLots). b.lots) bonds)) ∷ qs) bs ps
 bonds_join s n [] qs bs ps = grind (arith, behind_zero (min n 0) bs, met_zero s (min n 0) bs ps)
@@ -76,12 +83,12 @@ bonds_join s n (b ∷ bonds) qs bs ps =
 
 -- each seller's bonds hold its lots
 pub lines_join : (f : ℕ → ℕ) (bonds : ℕ → List BondLots) → ((a : ℕ) → f a ≤ sum_by (λ (b : BondLots). b.lots) (bonds a)) →
-    (xs : List ℕ) (bs : List Part) (ps : List Pair) → meets (flat_map (λ a. bond_pieces a (f a) (bonds a)) xs) bs ps ≡ meets (map (λ a. piece a None (f a)) xs) bs ps
+    (xs : List ℕ) (bs : List Part) (ps : List Pair) → meets (bonded f bonds xs) bs ps ≡ meets (unbonded f xs) bs ps
 lines_join f bonds h [] bs ps = refl
 lines_join f bonds h (x ∷ xs) bs ps =
     grind (
       arith,
       h x,
-      bonds_join x (f x) (bonds x) (flat_map (λ a. bond_pieces a (f a) (bonds a)) xs) bs ps,
+      bonds_join x (f x) (bonds x) (bonded f bonds xs) bs ps,
       lines_join f bonds h xs (behind (f x) bs) (met x (f x) bs ps),
     )

@@ -1,6 +1,5 @@
 -- A round has few legs. Assumes nothing.
 use Rattle.std.proofs.Common.{◌≡◌, ℕ, ◌+◌, ◌-◌, ◌*◌, ◌<◌, ◌≤◌, min, ltb, List, [], ◌∷◌, length, Some, None, count_by, refl, arith, length-append}
-use Rattle.std.specs.List.{flat_map}
 use Rattle.std.proofs.lemmas.List.Sums.{sum_by-cons, sum_by-append, count_by-le-length, sum_by-le-sum_by}
 use Rattle.std.proofs.lemmas.Bool.Decides.{nat_tests}
 use Rattle.terms.specs.Lots.{lots_in}
@@ -14,6 +13,7 @@ use Rattle.terms.specs.declared.calls.BondLots.{BondLots}
 use Rattle.terms.proofs.Lines.{count_sides}
 use Rattle.terms.proofs.Behind.{some, some_more, full_pieces, full_parts, legs_none, legs_few}
 use Rattle.terms.proofs.Deliveries.{map_sum}
+use Rattle.terms.proofs.Joined.{bonded}
 
 -- a seller without lots has no piece with lots, and else at most one for each bond
 bonds_none : (s n : ℕ) (bonds : List BondLots) → n ≡ 0 → full_pieces (bond_pieces s n bonds) ≡ 0
@@ -37,13 +37,13 @@ bonds_each s n (b ∷ bonds) =
     )
 
 pieces_full : (f h : ℕ → ℕ) (bonds : ℕ → List BondLots) → ((a : ℕ) → f a ≤ h a) → ((a : ℕ) → length (bonds a) ≤ 4) → (xs : List ℕ) →
-    full_pieces (flat_map (λ a. bond_pieces a (f a) (bonds a)) xs) ≤ 4 * count_by (λ a. ltb 0 (h a)) xs
+    full_pieces (bonded f bonds xs) ≤ 4 * count_by (λ a. ltb 0 (h a)) xs
 pieces_full f h bonds within four [] = omega arith
 pieces_full f h bonds within four (x ∷ xs) =
     grind (
       arith,
       nat_tests,
-      sum_by-append (λ (p : Piece). some p.lots) (bond_pieces x (f x) (bonds x)) (flat_map (λ a. bond_pieces a (f a) (bonds a)) xs),
+      sum_by-append (λ (p : Piece). some p.lots) (bond_pieces x (f x) (bonds x)) (bonded f bonds xs),
       sum_by-cons (λ a. some (h a)) x xs,
       pieces_full f h bonds within four xs,
       within x,
