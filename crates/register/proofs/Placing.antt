@@ -1,6 +1,6 @@
 -- The place of a key in a rising list, from how many of its keys come before the key. Assumes nothing.
-use Rattle.std.proofs.Common.{◌≡◌, ℕ, zero, suc, ◌<◌, ◌≤◌, Bool, true, false, cond, not, ◌&&◌, ltb, List, [], ◌∷◌, length, get_or, Some, None, Option, sym, refl, ap, ◌∙◌, subst, ap₂, inl, inr, arith}
-use Rattle.std.proofs.lemmas.Bool.{cases_order, cases_lt, cases_Bool, lt-ltb, le-ltb, cond-true, cond-false, true≢false}
+use Rattle.std.proofs.Common.{◌≡◌, ℕ, zero, suc, ◌<◌, ◌≤◌, Bool, true, false, cond, not, ◌&&◌, ltb, List, [], ◌∷◌, length, get_or, Some, None, Option, ◌⊎◌, sym, refl, ap, ◌∙◌, subst, ap₂, inl, inr, arith}
+use Rattle.std.proofs.lemmas.Bool.{cases_lt, cases_Bool, lt-ltb, le-ltb, cond-true, cond-false, true≢false}
 use Rattle.register.specs.Orders.{TotalOrder, climbs}
 use Rattle.std.specs.Option.{option_map}
 use Rattle.register.specs.Places.{same, first_place, place_of, Placed}
@@ -27,18 +27,19 @@ first_none p (k ∷ ks) d h =
 abbrev found_at : {K : Type 0} → (K → K → Bool) → List K → K → ℕ → Option ℕ
 found_at before ks key at = cond (ltb at (length ks) && not (before key (get_or ks at key))) (Some at) None
 
-module _ {K : Type 0} (before : K → K → Bool) (order : TotalOrder before) (ks : List K) (key : K) (at : ℕ)
+module _ {K : Type 0} (before : K → K → Bool) (order : TotalOrder before) (ks : List K) (key : K) (at : ℕ) (rising : climbs before ks ≡ true)
     (below : (i : ℕ) → i < at → before (get_or ks i key) key ≡ true)
     (above : (i : ℕ) → at ≤ i → i < length ks → before (get_or ks i key) key ≡ false) where
   other_below : (i : ℕ) → i < at → same before (get_or ks i key) key ≡ false
   other_below i l = ap (λ b. not b && not (before key (get_or ks i key))) (below i l)
 
-  other_after : (i : ℕ) → before key (get_or ks i key) ≡ true → same before (get_or ks i key) key ≡ false
-  other_after i t =
-      elim (cases_Bool (before (get_or ks i key) key)) [
-        | inl u ↦ ap₂ (λ a b. not a && not b) u t
-        | inr u ↦ ap₂ (λ a b. not a && not b) u t
-      ]
+  -- if the key at `at` comes after, so do the later ones
+  other_after : before key (get_or ks at key) ≡ true → (i : ℕ) → at ≤ i → i < length ks → same before (get_or ks i key) key ≡ false
+  other_after u i a m = ap₂ (λ x y. not x && not y) (above i a m) (after (cases_lt at i))
+    where
+      after : (at < i) ⊎ (i ≤ at) → before key (get_or ks i key) ≡ true
+      after (inl l) = order.transitive key (get_or ks at key) (get_or ks i key) u (rising_places before order ks at i key rising l m)
+      after (inr l) = let q : i ≡ at = omega arith in ap (λ n. before key (get_or ks n key)) q ∙ u
 
   -- the key stands at `at`
   is_there : at < length ks → before key (get_or ks at key) ≡ false → (r : Option ℕ) → r ≡ Some at → (r ≡ place_of before ks key) × Placed ks key r
@@ -56,28 +57,16 @@ module _ {K : Type 0} (before : K → K → Bool) (order : TotalOrder before) (k
       let q : (i : ℕ) → i < length ks → get_or ks i key ≡ key → ⊥ = λ i l k. true≢false (sym x ∙ sym (ap (λ y. same before y key) k) ∙ h i l) in
       (e ∙ sym (first_none (λ k. same before k key) ks key h), subst (Placed ks key) (sym e) q)
 
--- what is found is the place
-pub found_place : {K : Type 0} (before : K → K → Bool) (order : TotalOrder before) (ks : List K) (key : K) (at : ℕ) → climbs before ks ≡ true →
-    ((i : ℕ) → i < at → before (get_or ks i key) key ≡ true) → ((i : ℕ) → at ≤ i → i < length ks → before (get_or ks i key) key ≡ false) →
-    (r : Option ℕ) → r ≡ found_at before ks key at → (r ≡ place_of before ks key) × Placed ks key r
-found_place before order ks key at h below above r e =
-    let t = ltb at (length ks) in
-    let b = before key (get_or ks at key) in
-    elim (cases_lt at (length ks)) [
-      | inl l ↦ elim (cases_Bool b) [
-        | inl u ↦ is_nowhere before order ks key at below above
-            (λ i m. elim (cases_order i at) [
-              | inl q ↦ other_after before order ks key at below above i (ap (λ n. before key (get_or ks n key)) q ∙ u)
-              | inr o ↦ elim o [
-                | inl less ↦ other_below before order ks key at below above i less
-                | inr more ↦ other_after before order ks key at below above i
-                    (order.transitive key (get_or ks at key) (get_or ks i key) u (rising_places before order ks at i key h more m))
-              ]
-            ])
-            r (e ∙ cond-false (t && not b) (Some at) None (ap₂ (λ x y. x && not y) (lt-ltb at (length ks) l) u))
-        | inr f ↦ is_there before order ks key at below above l f r
-            (e ∙ cond-true (t && not b) (Some at) None (ap₂ (λ x y. x && not y) (lt-ltb at (length ks) l) f))
+  -- what is found is the place
+  pub found_place : (r : Option ℕ) → r ≡ found_at before ks key at → (r ≡ place_of before ks key) × Placed ks key r
+  found_place r e =
+      elim (cases_lt at (length ks)) [
+        | inl l ↦
+            let there : r ≡ cond (not (before key (get_or ks at key))) (Some at) None =
+            e ∙ ap (λ t. cond (t && not (before key (get_or ks at key))) (Some at) None) (lt-ltb at (length ks) l) in
+            elim (cases_Bool (before key (get_or ks at key))) [
+              | inl u ↦ is_nowhere (λ i m. elim (cases_lt i at) [ inl b ↦ other_below i b | inr a ↦ other_after u i a m ]) r (there ∙ ap (λ t. cond (not t) (Some at) None) u)
+              | inr f ↦ is_there l f r (there ∙ ap (λ t. cond (not t) (Some at) None) f)
+            ]
+        | inr g ↦ is_nowhere (λ i m. other_below i (omega arith)) r (e ∙ ap (λ t. cond (t && not (before key (get_or ks at key))) (Some at) None) (le-ltb at (length ks) g))
       ]
-      | inr g ↦ is_nowhere before order ks key at below above (λ i m. other_below before order ks key at below above i (omega arith))
-          r (e ∙ cond-false (t && not b) (Some at) None (ap (λ x. x && not b) (le-ltb at (length ks) g)))
-    ]
