@@ -1,20 +1,19 @@
 -- Calls and their records undo each other. Assumes nothing.
-use Rattle.std.proofs.Common.{◌≡◌, ℕ, cond, not, eqb, List, length, drop, replicate, Some, sym, refl, ap, ◌∙◌, subst, arith}
+use Rattle.std.proofs.Common.{◌≡◌, ℕ, cond, not, List, length, drop, Some, sym, refl, ap, ◌∙◌, subst, arith}
 use Rattle.std.specs.List.{AllByRecursion, list_all}
 use Rattle.std.proofs.lemmas.List.{drop_all}
-use Rattle.std.proofs.lemmas.Bool.{cond-true, eq-eqb}
 use Rattle.terms.specs.Answers.{refused, granted}
 use Rattle.terms.specs.Codes.{used}
 use Rattle.terms.specs.declared.calls.Call.{Call}
 use Rattle.terms.specs.declared.calls.Call.TheVariants.{Trade, DeclarePurchase, DeclareSale, Withdraw, OpenTrial, KeepTrial, DropTrial, Preview, Draw, LegResult, NextDay}
 use Rattle.record.specs.Calls.{call_letters, call_letter, call_layout, call_from, call_answer, call_fields, read_call}
 use Rattle.record.specs.Fields.{fields}
-use Rattle.record.specs.Layouts.{lettered, no_entry, no_entries, field_values}
+use Rattle.record.specs.Layouts.{lettered, no_entries, field_values}
 use Rattle.record.specs.declared.fields.Fields.{Fields}
 use Rattle.record.specs.declared.letters.CallLetter.{CallLetter}
 use Rattle.record.specs.declared.letters.CallLetter.TheVariants as by
 use Rattle.record.proofs.Clear.{letter_byte, Clear, clear_parts, Code, unused_all, codes, same_fields}
-use Rattle.record.proofs.Reading.{Read}
+use Rattle.record.proofs.Reading.{Read, reading_whole}
 
 abbrev call_byte : CallLetter → ℕ
 call_byte by.Trade = 84
@@ -50,7 +49,7 @@ call_kept bs letter f r =
     let long : length f.entries ≡ 4 = ap (λ g. length g.entries) r.same in
     let wide = subst (λ g. AllByRecursion Code g.entries) (sym r.same) (codes bs r.long) in
     known letter f (sym byte) clear
-    (λ e. ap (λ n. replicate n no_entry) (sym long) ∙ unused_all f.entries wide (sym (ap (list_all (λ x. not (used x))) e) ∙ clear.entries))
+    (λ e. unused_all f.entries 4 long wide (sym (ap (list_all (λ x. not (used x))) e) ∙ clear.entries))
 
 -- the fields of a call are read as that call
 taken : {call : Call} {f g : Fields} → Some g ≡ Some f → call_answer (lettered call_layout (call_letter g.letter) g) ≡ granted call →
@@ -75,7 +74,4 @@ as_call (LegResult g m u) f e l = taken e refl
 as_call NextDay f e l = taken e refl
 
 pub call_read : (call : Call) (f : Fields) (bs : List ℕ) → call_fields call ≡ Some f → length bs ≡ 64 → fields bs ≡ f → read_call bs ≡ granted call
-call_read call f bs e l s =
-    ap call_answer (cond-true (eqb (length bs) 64) (lettered call_layout (call_letter (fields bs).letter) (fields bs)) (refused 1) (eq-eqb (length bs) 64 l)
-    ∙ ap (λ g. lettered call_layout (call_letter g.letter) g) s)
-    ∙ as_call call f e (ap (λ g. length g.entries) (sym s))
+call_read call f bs e l s = ap call_answer (reading_whole call_letter call_layout bs f l (sym s)) ∙ as_call call f e (ap (λ g. length g.entries) (sym s))
