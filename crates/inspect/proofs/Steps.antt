@@ -13,16 +13,11 @@ ToldTo n bs all = (k : ℕ) (d : Result Record Fault) → k < n → told (get_or
 -- one more
 pub told_more : (bs rest next : List ℕ) (all : List (Result Record Fault)) (n : ℕ) (s : Result Record Fault) → n ≡ length all → rest ≡ drop (64 * n) bs → told s ≡ tells (take 64 rest) →
     next ≡ drop 64 rest → ToldTo n bs all → (next ≡ drop (64 * (n + 1)) bs) × ToldTo (n + 1) bs (all ++ s ∷ [])
-told_more bs rest next all n s l r t e h = (e ∙ ap (drop 64) r ∙ drop-drop 64 (64 * n) bs ∙ ap (λ m. drop m bs) (place n), one)
+told_more bs rest next all n s l r t e h = (e ∙ ap (drop 64) r ∙ drop-drop 64 (64 * n) bs ∙ ap (λ m. drop m bs) (omega arith), one)
   where
-    place : (n : ℕ) → 64 * n + 64 ≡ 64 * (n + 1)
-    place n = omega arith
-
     one : ToldTo (n + 1) bs (all ++ s ∷ [])
     one k d b =
         elim (cases_lt k n) [
           | inl c ↦ ap told (get_or_append_left all (s ∷ []) d k (omega arith)) ∙ h k d c
-          | inr c ↦
-              let last : n ≡ k = omega arith in
-              ap told (get_or_push all s d k (omega arith)) ∙ t ∙ ap (λ m. tells (take 64 m)) (r ∙ ap (λ m. drop (64 * m) bs) last)
+          | inr c ↦ let last : k ≡ n = omega arith in let pushed = get_or_push all s d k (omega arith) in grind arith
         ]
