@@ -1,7 +1,6 @@
 // The closings layer: named days taken out of any calendar.
 ghost use Rattle.std.specs.Prelude.{◌≡◌, [], ◌≤◌, length};
 ghost use Rattle.terms.specs.Answers.{answered};
-ghost use Rattle.terms.specs.Month.{has};
 ghost use Rattle.calendar.specs.Days.{without, named_answer, named_after};
 ghost use Rattle.std.proofs.Common.{rules};
 
@@ -43,6 +42,7 @@ impl<C: Calendar> Closings<C> {
         ensures answer { answered result ≡ named_answer day self.old.named }
         ensures named { self.new.named ≡ named_after day self.old.named }
         ensures below { self.new.below ≡ self.old.below }
+        ensures few { length self.new.named ≤ 64 }
     {
         if self.named.contains(&day) {
             return Ok(());

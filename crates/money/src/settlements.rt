@@ -70,9 +70,9 @@ struct Sums {
     difference: u64,
     performance: u64,
     share: u64,
-    ghost cost_fits: { cost ≤ 10 ^ 15 },
-    ghost difference_fits: { difference ≤ 10 ^ 15 },
-    ghost performance_fits: { performance ≤ 10 ^ 15 },
+    ghost cost_fits: { cost ≤ 10 ^ 16 },
+    ghost difference_fits: { difference ≤ 10 ^ 16 },
+    ghost performance_fits: { performance ≤ 10 ^ 16 },
     ghost share_within: { share ≤ performance },
 }
 
@@ -151,7 +151,7 @@ impl Sums {
     }
 }
 
-// A side's payments.
+// A side's payments; eight literals would be no plainer.
 fn side(performance: u64, pays: u64, receives: u64) -> Payments
     ensures { result ≡ payments performance pays receives }
 {

@@ -16,7 +16,7 @@ pub(crate) fn total(lots: &[u32]) -> u64
 pub(crate) fn can_split(lots: &[u32], n: u32, places: usize) -> bool
     ensures { result ≡ can_split lots.now n places }
 {
-    if lots.is_empty() || lots.len() > 256 || places != lots.len() {
+    if !(1..=256).contains(&lots.len()) || places != lots.len() {
         return false;
     }
     are_entries(lots) && u64::from(n) <= total(lots)

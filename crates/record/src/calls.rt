@@ -120,7 +120,7 @@ impl CallLetter {
     }
 }
 
-// The fields of the record of a declaration without entries, or of a withdrawal.
+// The fields of the record of a declaration without entries, or of a withdrawal. A literal for each call would be no plainer than this and the next.
 fn declared(letter: u8, minute: u16, account: Account, lots: u32) -> Fields
     ensures { result ≡ field_values letter 0 minute account lots 0 no_entries }
 {

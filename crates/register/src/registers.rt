@@ -43,6 +43,7 @@ impl<K: Key, const N: usize> Register<K, N> {
     pub fn keys(&self) -> &[K]
         ensures keys { result.now ≡ self.now }
         ensures rising { climbs K.before result.now ≡ true }
+        ensures few { length result.now ≤ N }
     {
         let all = &self.keys[..];
         &all[..self.count]

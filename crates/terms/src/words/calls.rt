@@ -44,9 +44,16 @@ fn write_declaration<W: fmt::Write>(
     )
 }
 
-// The four entries of a sale declaration.
-fn write_entries<W: fmt::Write>(f: &mut fmt::Formatter<W>, bonds: &[BondLots; 4]) -> fmt::Result {
+// A sale declaration, with its four entries.
+fn write_sale<W: fmt::Write>(
+    f: &mut fmt::Formatter<W>,
+    minute: u16,
+    account: Account,
+    lots: u32,
+    bonds: &[BondLots; 4],
+) -> fmt::Result {
     let [a, b, c, d] = bonds;
+    write_declaration(f, "sale", minute, account, lots)?;
     write!(f, ", bonds {a}, {b}, {c}, {d}")
 }
 
@@ -68,10 +75,7 @@ impl fmt::Display for Call {
                 account,
                 lots,
                 bonds,
-            } => {
-                write_declaration(f, "sale", minute, account, lots)?;
-                write_entries(f, &bonds)
-            }
+            } => write_sale(f, minute, account, lots, &bonds),
             Call::Withdraw { minute, account } => write!(
                 f,
                 "withdrawal, minute {minute}, account {account}"
