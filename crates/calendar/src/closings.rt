@@ -14,6 +14,7 @@ use terms::refusals::Refusal;
 pub struct Closings<C> {
     below: C,
     named: ArrayVec<u32, 64>,
+    ghost few: { length named.items ≤ 64 },
 }
 
 impl<C> Model for Closings<C> {
@@ -21,7 +22,7 @@ impl<C> Model for Closings<C> {
 
     ghost Value = { Layer C };
 
-    ghost view = { λ c. record { below = c.below; named = c.named.items } };
+    ghost view = { λ c. record { below = c.below; named = c.named.items; few = c.few } };
 }
 
 impl<C: Calendar> Closings<C> {

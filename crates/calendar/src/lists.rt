@@ -1,5 +1,6 @@
 // Lists of days.
-ghost use Rattle.std.specs.Prelude.{◌≡◌, ℕ, List};
+ghost use Rattle.std.specs.Prelude.{◌≡◌, ℕ, List, ◌==◌};
+ghost use Rattle.std.specs.List.{list_any};
 ghost use Rattle.terms.specs.Month.{has};
 
 // A list of days that can be looked through, in any order. Any kind of list will do, not only a lent slice: it may lie in the calendar itself.
@@ -16,6 +17,13 @@ impl DayList for &[u32] {
 
     #[tactic(auto, using(crate::proofs::Searched::has_any))]
     fn has_day(&self, day: u32) -> bool {
-        self.contains(&day)
+        holds(self, day)
     }
+}
+
+// Whether a list has a day, in the words of the library.
+fn holds(days: &[u32], day: u32) -> bool
+    ensures { result ≡ list_any (λ d. d == day) days.now }
+{
+    days.contains(&day)
 }

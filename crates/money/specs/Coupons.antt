@@ -1,5 +1,7 @@
 -- How often a year a coupon is paid. Assumes nothing.
-use Rattle.std.specs.Prelude.{ℕ, cond, Some, None, Option, ◌==◌}
+use Rattle.std.specs.Prelude.{ℕ, ◌*◌, ◌≤◌, cond, Some, None, Option, ◌==◌}
+use Rattle.money.specs.Amounts.{accrued}
+use Rattle.money.specs.declared.coupons.Coupon.{Coupon}
 use Rattle.money.specs.declared.coupons.Frequency.{Frequency}
 use Rattle.money.specs.declared.coupons.Frequency.TheVariants.{Yearly, HalfYearly, Quarterly}
 
@@ -12,3 +14,10 @@ coupons Quarterly = 4
 -- The frequency with so many coupons a year.
 abbrev pub frequency : ℕ → Option Frequency
 frequency n = cond (n == 1) (Some Yearly) (cond (n == 2) (Some HalfYearly) (cond (n == 4) (Some Quarterly) None))
+
+-- A coupon's interest, and what it is rounded from, are small.
+pub record Accruing (k : Coupon) : Type 0 where
+  pub earned : k.rate * 10000 * k.period.gone ≤ 732000000000
+  pub some : 1 ≤ coupons k.frequency * k.period.days
+  pub few : coupons k.frequency * k.period.days ≤ 1464
+  pub interest : accrued k.rate (coupons k.frequency) k.period.gone k.period.days ≤ 2000000000

@@ -1,5 +1,5 @@
 -- The settlement of a leg, by who failed. Assumes nothing.
-use Rattle.std.specs.Prelude.{◌≡◌, ℕ, ◌+◌, ◌-◌}
+use Rattle.std.specs.Prelude.{◌≡◌, ℕ, ◌+◌, ◌-◌, ◌^◌, ◌≤◌}
 use Rattle.money.specs.Amounts.{cost, seller_difference, buyer_difference, performance, passed_on}
 use Rattle.money.specs.declared.settlements.Failed.{Failed}
 use Rattle.money.specs.declared.settlements.Failed.TheVariants.{Nobody, Seller, Buyer, Both}
@@ -48,6 +48,14 @@ seller_owes t u = seller_difference u.lots t.price u.factor u.valuation
 -- The difference that a failed buyer pays for them.
 abbrev pub buyer_owes : Terms → Unfinished → ℕ
 buyer_owes t u = buyer_difference u.lots t.price u.factor u.valuation
+
+-- What a settlement is made of is small.
+pub record Small (t : Terms) (d : Delivered) (u : Unfinished) : Type 0 where
+  pub cost : cost_of t d ≤ 10 ^ 16
+  pub seller : seller_owes t u ≤ 10 ^ 16
+  pub buyer : buyer_owes t u ≤ 10 ^ 16
+  pub sum : sum_of t u ≤ 10 ^ 16
+  pub share : share_of t u ≤ sum_of t u
 
 -- The settlement of a leg, by who failed.
 abbrev pub settled : Failed → Terms → Delivered → Unfinished → Settlement

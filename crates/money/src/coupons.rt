@@ -1,7 +1,7 @@
 // Coupons, and the interest that has accrued on a day.
 ghost use Rattle.std.specs.Prelude.{◌≡◌, ◌*◌, ◌≤◌, ok_or};
 ghost use Rattle.money.specs.Amounts.{accrued};
-ghost use Rattle.money.specs.Coupons.{coupons, frequency};
+ghost use Rattle.money.specs.Coupons.{coupons, frequency, Accruing};
 
 use crate::amounts::half_up;
 use crate::periods::Period;
@@ -58,7 +58,8 @@ impl Coupon {
     // The interest accrued since the last coupon day.
     #[tactic(auto, using(crate::proofs::Bounds::half_up_le))]
     pub fn accrued(&self) -> Interest
-        ensures { result ≡ accrued self.now.rate (coupons self.now.frequency) self.now.period.gone self.now.period.days }
+        ensures amount { result ≡ accrued self.now.rate (coupons self.now.frequency) self.now.period.gone self.now.period.days }
+        ensures small { Accruing self.now }
     {
         Interest::exactly(half_up(
             earned(self.rate, self.period),
@@ -71,6 +72,7 @@ impl Coupon {
 fn earned(rate: Rate, period: Period) -> u64
     ensures amount { result ≡ rate * 10000 * period.gone }
     ensures small { result ≤ 2000000000 * period.days }
+    ensures most { result ≤ 732000000000 }
 {
     u64::from(rate.value()) * 10_000 * u64::from(period.gone())
 }

@@ -1,6 +1,6 @@
 // The settlement of a leg.
 ghost use Rattle.std.specs.Prelude.{◌≡◌, ◌^◌, ◌≤◌};
-ghost use Rattle.money.specs.Settlements.{payments, settled, all_done, seller_failed, buyer_failed, both_failed, Balanced};
+ghost use Rattle.money.specs.Settlements.{payments, settled, all_done, seller_failed, buyer_failed, both_failed, Balanced, Small};
 
 use crate::amounts::{Delivered, Terms, Unfinished, performance};
 
@@ -42,7 +42,9 @@ pub fn settle(
 ) -> Settlement
     ensures amounts { result ≡ settled failed terms.now delivered.now unfinished.now }
     ensures balanced { Balanced result }
+    ensures small { Small terms.now delivered.now unfinished.now }
 {
+    sums_are_small(*terms, *delivered, *unfinished);
     let difference = match failed {
         Failed::Seller => unfinished.seller_difference(terms.price),
         Failed::Buyer => unfinished.buyer_difference(terms.price),
@@ -62,6 +64,11 @@ pub fn settle(
         Failed::Both => sums.failed_both(),
     }
 }
+
+// What a settlement is made of is small. It takes the values themselves, since of lent ones the ranges aren't known.
+fn sums_are_small(terms: Terms, delivered: Delivered, unfinished: Unfinished)
+    ensures { Small terms delivered unfinished }
+{}
 
 // What the sides of a leg may come to owe, in fen.
 #[derive(Clone, Copy)]

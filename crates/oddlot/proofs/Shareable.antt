@@ -1,7 +1,7 @@
 -- What a rule answers is what it has to answer. Assumes nothing.
-use Rattle.std.proofs.Common.{◌≡◌, ℕ, ◌≤◌, true, List, [], ◌∷◌, length, sum, mul-le-mul_right, arith}
+use Rattle.std.proofs.Common.{◌≡◌, ℕ, ◌<◌, ◌≤◌, true, List, [], ◌∷◌, length, sum, get_or, mul-le-mul_right, arith}
 use Rattle.std.specs.List.{AllByRecursion, list_all}
-use Rattle.std.proofs.ByRecursion.{All-weaker, sum_by_le}
+use Rattle.std.proofs.ByRecursion.{All-weaker, All-get_or, sum_by_le}
 use Rattle.std.proofs.lemmas.Bool.Decides.{nat_tests}
 use Rattle.terms.specs.Codes.{between}
 use Rattle.terms.specs.OddLots.{Shareable}
@@ -28,3 +28,7 @@ passed_from lots n places h =
       as_many = grind (arith, nat_tests);
       bounded = omega (arith, most, mul-le-mul_right {m = length lots} {n = 256} 100000 few);
     }
+
+-- an entry has at most 100,000 lots
+pub entry_small : (lots : List ℕ) (n : ℕ) → Shareable lots n → (i : ℕ) → i < length lots → get_or lots i 0 ≤ 100000
+entry_small lots n s i l = (All-get_or (λ q. (1 ≤ q) × (q ≤ 100000)) lots i 0 l s.sizes).1

@@ -9,7 +9,7 @@ use Rattle.record.specs.Bytes.{value, bytes_of, part}
 use Rattle.record.specs.Fields.{entry_at, entry_bytes, fields, laid_out}
 
 -- two parts, one behind the other
-part_join : (xs : List ℕ) (at m n : ℕ) → part at m xs ++ part (at + m) n xs ≡ part at (m + n) xs
+pub part_join : (xs : List ℕ) (at m n : ℕ) → part at m xs ++ part (at + m) n xs ≡ part at (m + n) xs
 part_join xs at m n = sym (take-add m n (drop at xs) ∙ ap (λ r. part at m xs ++ take n r) (drop-drop m at xs))
 
 -- what stands from a place on: a part, and what stands behind it

@@ -1,9 +1,17 @@
 // Bond codes as keys.
-ghost use Rattle.register.specs.Orders.{code_before};
+ghost use Rattle.std.specs.Prelude.{◌≡◌};
+ghost use Rattle.register.specs.Orders.{bytes_before, code_before};
 ghost use Rattle.register.specs.Bytes.{code_order};
 
 use crate::keys::Key;
 use terms::calls::BondCode;
+
+// Whether eight bytes come before others: the numbers that they spell, the first byte highest, are ordered alike.
+fn is_before(a: [u8; 8], b: [u8; 8]) -> bool
+    ensures { result ≡ bytes_before a b }
+{
+    u64::from_be_bytes(a) < u64::from_be_bytes(b)
+}
 
 // Bond codes are compared from the first byte.
 impl Key for BondCode {
@@ -12,6 +20,6 @@ impl Key for BondCode {
     ghost order = { code_order };
 
     fn precedes(&self, other: &BondCode) -> bool {
-        self < other
+        is_before(self.bytes, other.bytes)
     }
 }

@@ -4,7 +4,7 @@ ghost use Rattle.register.specs.Orders.{TotalOrder, climbs};
 ghost use Rattle.std.proofs.Common.{rules};
 
 // A kind of key. `before` is its order, as a test, and the order is total: two keys of which neither is before the other are one key. `Ord`
-// does not promise that, and asking for both would ask more of a key; a comparison that is derived does for the code.
+// does not promise that, and asking for both would ask more of a key.
 pub trait Key: Copy {
     ghost before: { Self → Self → Bool };
 

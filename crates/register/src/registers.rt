@@ -1,5 +1,5 @@
 // The ordered register.
-ghost use Rattle.std.specs.Prelude.{◌≡◌, ◌<◌, ◌≤◌, true, not, ◌&&◌, length, take, if◌then◌else◌, Some, None, nat_lt, slice_index_or};
+ghost use Rattle.std.specs.Prelude.{◌≡◌, ◌<◌, ◌≤◌, true, not, ◌&&◌, length, take, if◌then◌else◌, Some, None, IfSome, nat_lt, slice_index_or};
 ghost use Rattle.std.specs.Bool.{then_some};
 ghost use Rattle.register.specs.Orders.{climbs};
 ghost use Rattle.register.specs.Places.{registrable, place_of, Placed};
@@ -53,6 +53,7 @@ impl<K: Key, const N: usize> Register<K, N> {
     pub fn place(&self, key: &K) -> Option<usize>
         ensures place { result ≡ place_of K.before self.now key.now }
         ensures meaning { Placed self.now key.now result }
+        ensures within { IfSome result (λ i. i < N) }
     {
         let keys = self.keys();
         let at = keys.partition_point(|k| k.precedes(key));

@@ -1,5 +1,5 @@
 -- Legs of a sellers' line against a buyers' line: what they sell and buy, and how many they are. Assumes nothing.
-use Rattle.std.proofs.Common.{◌≡◌, ℕ, ◌+◌, ◌-◌, ◌<◌, ◌≤◌, min, cond, eqb, ltb, ◌⊎◌, List, [], ◌∷◌, length, sum_by, sym, refl, arith, length-append}
+use Rattle.std.proofs.Common.{◌≡◌, ℕ, ◌+◌, ◌-◌, ◌<◌, ◌≤◌, min, Bool, cond, eqb, ltb, ◌⊎◌, List, [], ◌∷◌, length, sum_by, sym, refl, arith, length-append}
 use Rattle.std.proofs.lemmas.List.Sums.{sum_by-cons, sum_by-append, sum_by-le-sum_by}
 use Rattle.std.proofs.lemmas.Bool.Decides.{nat_tests}
 use Rattle.terms.specs.Lines.{Part, part, of_account, lots_on_line}
@@ -45,6 +45,10 @@ some_more x y h = grind (arith, nat_tests)
 -- n lots laid against l lots
 some_split : (n l : ℕ) → some (min n l) + some (l - n) + some (n - l) ≤ some l + some n
 some_split n l = grind (arith, nat_tests)
+
+-- numbers under one test add up as they do without it
+pub cond_sum : (t : Bool) (x y z : ℕ) → x + y ≡ z → cond t x 0 + cond t y 0 ≡ cond t z 0
+cond_sum t x y z e = grind arith
 
 -- one leg
 leg_sold : (p : Piece) (b n a : ℕ) → sum_by (sells a) (leg_row p b n) ≡ cond (eqb p.seller a) n 0

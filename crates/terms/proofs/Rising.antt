@@ -16,6 +16,11 @@ sum_same_in f g (x ∷ xs) h =
     let e = h x (has_here x xs) in
     omega (arith, sum_by-cons f x xs, sum_by-cons g x xs, sum_same_in f g xs (λ y i. h y (has_there y x xs i)))
 
+pub sum_le_in : (f g : ℕ → ℕ) (xs : List ℕ) → ((x : ℕ) → has x xs ≡ true → f x ≤ g x) → sum_by f xs ≤ sum_by g xs
+sum_le_in f g [] h = omega arith
+sum_le_in f g (x ∷ xs) h =
+    omega (arith, h x (has_here x xs), sum_by-cons f x xs, sum_by-cons g x xs, sum_le_in f g xs (λ y i. h y (has_there y x xs i)))
+
 pub map_same_in : (f g : ℕ → ℕ) (xs : List ℕ) → ((x : ℕ) → has x xs ≡ true → f x ≡ g x) → map f xs ≡ map g xs
 map_same_in f g [] h = refl
 map_same_in f g (x ∷ xs) h = ap₂ (λ a b. a ∷ b) (h x (has_here x xs)) (map_same_in f g xs (λ y i. h y (has_there y x xs i)))

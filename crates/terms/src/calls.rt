@@ -17,7 +17,9 @@ impl BondCode {
     pub fn lies_between(&self, low: u8, high: u8) -> bool
         ensures { result ≡ list_all (between low high) self.now.bytes }
     {
-        self.bytes.iter().all(|b| (low..=high).contains(b))
+        // a copy is read as one number; through the reference each byte is read by itself
+        let bytes = self.bytes;
+        bytes.iter().all(|b| (low..=high).contains(b))
     }
 
     // Whether every byte is a visible ASCII character.

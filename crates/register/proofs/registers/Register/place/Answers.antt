@@ -20,4 +20,5 @@ returns g c =
     record {
       place = both.0 ∙ ap (λ ks. place_of before ks key) same;
       meaning = subst (λ ks. Placed ks key c.found_at.result) same both.1;
+      within = grind arith;
     }
