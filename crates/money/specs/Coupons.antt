@@ -15,7 +15,7 @@ coupons Quarterly = 4
 abbrev pub frequency : ℕ → Option Frequency
 frequency n = cond (n == 1) (Some Yearly) (cond (n == 2) (Some HalfYearly) (cond (n == 4) (Some Quarterly) None))
 
--- A coupon's interest, and what it is rounded from, are small.
+-- How large a coupon's interest and the quotient that it is rounded from can be; the divisor is not 0.
 pub record Accruing (k : Coupon) : Type 0 where
   pub earned : k.rate * 10000 * k.period.gone ≤ 732000000000
   pub some : 1 ≤ coupons k.frequency * k.period.days

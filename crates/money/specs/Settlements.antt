@@ -49,7 +49,7 @@ seller_owes t u = seller_difference u.lots t.price u.factor u.valuation
 abbrev pub buyer_owes : Terms → Unfinished → ℕ
 buyer_owes t u = buyer_difference u.lots t.price u.factor u.valuation
 
--- What a settlement is made of is small.
+-- A cost, a difference and a performance sum are at most 10^16 fen each, and a share is at most its performance sum.
 pub record Small (t : Terms) (d : Delivered) (u : Unfinished) : Type 0 where
   pub cost : cost_of t d ≤ 10 ^ 16
   pub seller : seller_owes t u ≤ 10 ^ 16

@@ -65,7 +65,7 @@ pub fn settle(
     }
 }
 
-// What a settlement is made of is small. It takes the values themselves, since of lent ones the ranges aren't known.
+// How large the amounts of a settlement can be. It takes the values themselves, since of lent ones the ranges are not known.
 fn sums_are_small(terms: Terms, delivered: Delivered, unfinished: Unfinished)
     ensures { Small terms delivered unfinished }
 {}

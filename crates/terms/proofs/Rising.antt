@@ -10,16 +10,13 @@ use Rattle.terms.proofs.Sums.{has_here, has_there, has_cases, sum_add, sum_same,
 use Rattle.terms.proofs.Alone.{has_with_day}
 
 -- what holds of the terms at the numbers of the list
-pub sum_same_in : (f g : ℕ → ℕ) (xs : List ℕ) → ((x : ℕ) → has x xs ≡ true → f x ≡ g x) → sum_by f xs ≡ sum_by g xs
-sum_same_in f g [] h = refl
-sum_same_in f g (x ∷ xs) h =
-    let e = h x (has_here x xs) in
-    omega (arith, sum_by-cons f x xs, sum_by-cons g x xs, sum_same_in f g xs (λ y i. h y (has_there y x xs i)))
-
 pub sum_le_in : (f g : ℕ → ℕ) (xs : List ℕ) → ((x : ℕ) → has x xs ≡ true → f x ≤ g x) → sum_by f xs ≤ sum_by g xs
 sum_le_in f g [] h = omega arith
 sum_le_in f g (x ∷ xs) h =
     omega (arith, h x (has_here x xs), sum_by-cons f x xs, sum_by-cons g x xs, sum_le_in f g xs (λ y i. h y (has_there y x xs i)))
+
+pub sum_same_in : (f g : ℕ → ℕ) (xs : List ℕ) → ((x : ℕ) → has x xs ≡ true → f x ≡ g x) → sum_by f xs ≡ sum_by g xs
+sum_same_in f g xs h = omega (arith, sum_le_in f g xs (λ x i. let e = h x i in omega arith), sum_le_in g f xs (λ x i. let e = h x i in omega arith))
 
 pub map_same_in : (f g : ℕ → ℕ) (xs : List ℕ) → ((x : ℕ) → has x xs ≡ true → f x ≡ g x) → map f xs ≡ map g xs
 map_same_in f g [] h = refl
